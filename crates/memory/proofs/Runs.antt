@@ -1,7 +1,8 @@
 -- Bytes put into a block, or taken from one, are bytes put or taken from an address on. Assumes nothing.
 use Prim.Native.Nat.{ℕ, zero, suc, _+_, _-_, _*_, _/_, _%_, _≤_, _<_}
 use mathlib.Core.Path.{_≡_, refl, ap, ap₂, sym, _∙_}
-use mathlib.Core.List.{List, [], _∷_, _++_, append-assoc}
+use mathlib.Core.List.{List, [], _∷_, _++_, append-assoc, append-nil}
+use Rattle.std.proofs.shelf.Lists.{drop-all}
 use native.Mathlib.Omega.{arith}
 use native.Mathlib.Nat.{add-zero, zero-add}
 use lib.ListN.{length, getD, set, take, drop, length-set, length-drop}
@@ -104,3 +105,10 @@ read-turn m x₀ x a k n b o v w held ys s inv kn at on b< eh ev ew ey =
     ∙ ap (λ (z : List ℕ). f ++ (z ++ drop (k + n) x₀)) e
     ∙ sym (append-assoc f (bytesFrom m (a + k) n) (drop (k + n) x₀))
     ∙ ap (λ (z : List ℕ). z ++ drop (k + n) x₀) (sym (taken-more m a k n))
+
+-- a whole list overwritten
+pub all-set : (x d : List ℕ) (n : ℕ) → length x ≡ n → length d ≡ n → sets x 0 d ≡ d
+all-set x d n ex ed =
+    let l : 0 + length d ≤ length x = omega arith in
+    let past : length x ≤ 0 + length d = omega arith in
+    sets-eq d x 0 l ∙ ap (λ (z : List ℕ). d ++ z) (drop-all (0 + length d) x past) ∙ append-nil d

@@ -9,8 +9,8 @@ use borrow.Rule.Slice.PartMut.{putMid}
 use lib.Seq.{sets, sets-eq, take-all, take-at, drop-at, drop-drop, take-append-le, drop-append-le, take-take, length-take-le, take-suc-set, drop-length}
 use Rattle.std.proofs.shelf.Lists.{drop-take, take-append-drop, drop-all, nil-from-length}
 use Rattle.memory.specs.Memory.{Memory, Shaped, blockAt, blockCount, blockSize, memorySize, withBlock, withBytes, cut, blocksOf, zeros}
-use Rattle.memory.proofs.Runs.{put-in-block, put-more}
-use Rattle.stores.proofs.Shapes.{sized-set, shaped-zeros}
+use Rattle.memory.proofs.Runs.{put-in-block, put-more, all-set}
+use Rattle.memory.proofs.Shapes.{sized-set, shaped-zeros}
 
 pub length-cut : (n : ℕ) (xs : List ℕ) → length (cut n xs) ≡ n
 length-cut zero xs = refl
@@ -48,13 +48,6 @@ cut-with (suc n) xs (suc b) d h l e =
         drop-append-le 16 (take (16 * suc b) xs) r lt
         ∙ ap₂ (λ (y z : List ℕ). y ++ (d ++ z)) (ap (λ (j : ℕ). drop 16 (take j xs)) a ∙ drop-take 16 (16 * b) xs) (ap (λ (j : ℕ). drop j xs) (sym k) ∙ sym (drop-drop (16 * b + length d) 16 xs)) in
     ap₂ (λ (y z : List ℕ). y ∷ cut n z) first rest ∙ ap (λ (z : Memory). take 16 xs ∷ z) (cut-with n ys b d lb ly e)
-
--- a whole list overwritten
-all-set : (x d : List ℕ) (n : ℕ) → length x ≡ n → length d ≡ n → sets x 0 d ≡ d
-all-set x d n ex ed =
-    let l : 0 + length d ≤ length x = omega arith in
-    let past : length x ≤ 0 + length d = omega arith in
-    sets-eq d x 0 l ∙ ap (λ (z : List ℕ). d ++ z) (drop-all (0 + length d) x past) ∙ append-nil d
 
 -- blocks written one after the other from block b on: those before stay
 pub written-from : (k b : ℕ) (m : Memory) (xs : List ℕ) → ((j : ℕ) → j < length m → length (blockAt m j) ≡ 16) → b + k ≡ length m → length xs ≡ 16 * k →

@@ -19,7 +19,7 @@ use Rattle.std.specs.declared.option.Option.the-variants.{Some, None}
 use Rattle.memory.specs.Memory.{Memory, Shaped, blockAt, blockCount, withBlock, zeros}
 use Rattle.stores.specs.declared.entry.Entry.{Entry}
 use Rattle.stores.specs.Log.{replayed, orOlder, newest, heldBy, fold, withRoom, capacity, Logged}
-use Rattle.stores.proofs.Shapes.{shaped-set, shaped-zeros, block-zeros}
+use Rattle.memory.proofs.Shapes.{shaped-set, shaped-zeros, block-zeros}
 
 -- the replay
 pub shaped-replayed : (m : Memory) (es : List Entry) → Shaped m → Shaped (replayed m es)

@@ -1,6 +1,6 @@
 use Rattle.memory.specs.Memory.{zeros}
 use Rattle.stores.specs.Log.{entries}
-use Rattle.stores.proofs.Shapes.{shaped-zeros}
+use Rattle.memory.proofs.Shapes.{shaped-zeros}
 use Rattle.stores.proofs.Replays.{shaped-replayed}
 use Rattle.stores.proofs.log_store.LogStoreStore.the-impl.Needs as need
 

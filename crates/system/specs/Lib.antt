@@ -1,0 +1,4 @@
+pub mod Identity
+pub mod Protection
+pub mod Example
+pub mod Words

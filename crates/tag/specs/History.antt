@@ -1,0 +1,20 @@
+-- A history: the calls on a tag, each with its arguments and its answer, the newest first. Assumes nothing.
+use mathlib.Core.List.{List}
+use Prim.Native.Nat.{ℕ}
+use Rattle.std.specs.declared.result.Result.{Result}
+use Rattle.memory.specs.declared.refusal.Refusal.{Refusal}
+use Rattle.system.specs.declared.figure.Writable.{Writable}
+
+-- a buffer that a call may write stands as it was before the call and as it is after it
+pub data Event : Type 0 where
+  field-on : Event
+  field-off : Event
+  -- block number, buffer before, answer, buffer after
+  bench-read : ℕ → List ℕ → Result (Unit {0}) Refusal → List ℕ → Event
+  -- block number, bytes, answer
+  bench-write : ℕ → List ℕ → Result (Unit {0}) Refusal → Event
+  -- answer
+  bench-writable : Writable → Event
+
+abbrev pub History : Type 0
+History = List Event

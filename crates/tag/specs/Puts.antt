@@ -1,0 +1,31 @@
+-- Bytes put at places of the memory, in order, the later one counting. Assumes nothing.
+use mathlib.Core.Path.{_≡_}
+use mathlib.Core.List.{List, [], _∷_}
+use Prim.Native.Nat.{ℕ, suc}
+use Rattle.memory.specs.Memory.{Memory, withByte}
+
+-- a byte put at an offset of a block
+pub record Put : Type 0 where
+  pub block : ℕ
+  pub offset : ℕ
+  pub value : ℕ
+
+-- bytes put into block b from the offset o on
+abbrev pub inBlock : ℕ → ℕ → List ℕ → List Put
+inBlock b o [] = []
+inBlock b o (v ∷ vs) = record { block = b; offset = o; value = v } ∷ inBlock b (suc o) vs
+
+-- the memory after them
+abbrev pub puts : Memory → List Put → Memory
+puts m [] = m
+puts m (p ∷ ps) = puts (withByte m (p .block) (p .offset) (p .value)) ps
+
+-- none of them is at the offset o of block b
+abbrev pub Spares : List Put → ℕ → ℕ → Type 0
+Spares [] b o = Unit {0}
+Spares (p ∷ ps) b o = ((b ≡ p .block) × (o ≡ p .offset) → ⊥) × Spares ps b o
+
+-- the last of them at the offset o of block b puts v
+pub data Last : List Put → ℕ → ℕ → ℕ → Type 0 where
+  here : {p : Put} {ps : List Put} → Spares ps (p .block) (p .offset) → Last (p ∷ ps) (p .block) (p .offset) (p .value)
+  later : {p : Put} {ps : List Put} {b o v : ℕ} → Last ps b o v → Last (p ∷ ps) b o v

@@ -1,0 +1,70 @@
+-- What each call does to a tag and what it answers: the one relation that every public call ensures. Assumes nothing.
+use mathlib.Core.Path.{_≡_}
+use mathlib.Core.List.{List}
+use Prim.Native.Nat.{ℕ, _≤_, _<_}
+use lib.ListN.{length}
+use Rattle.std.specs.declared.option.Option.{Option}
+use Rattle.std.specs.declared.option.Option.the-variants.{Some, None}
+use Rattle.std.specs.declared.result.Result.{Result}
+use Rattle.std.specs.declared.result.Result.the-variants.{Ok, Err}
+use Rattle.memory.specs.Memory.{Memory, blockAt, blockCount, blockSize, withBlock}
+use Rattle.memory.specs.declared.refusal.Refusal.{Refusal}
+use Rattle.memory.specs.declared.refusal.Refusal.the-variants.{NoSuchBlock, NotBlockSized, NotImageSized}
+use Rattle.system.specs.declared.figure.Writable.{Writable}
+use Rattle.system.specs.Identity.{identityBlock}
+use Rattle.system.specs.Protection.{protectionBlock, Figure}
+use Rattle.tag.specs.Model.{Copy, Model}
+use Rattle.tag.specs.History.{Event, field-on, field-off, bench-read, bench-write, bench-writable}
+
+-- a tag as it is made: the field off
+abbrev pub fresh : Memory → Model
+fresh m = record { memory = m; copy = None }
+
+-- the field comes on: blocks 30 and 31 are copied; on while on changes nothing
+abbrev pub copyOf : Memory → Copy
+copyOf m = record { identity = blockAt m identityBlock; protection = blockAt m protectionBlock }
+
+abbrev pub kept : Memory → Option Copy → Option Copy
+kept m None = Some (copyOf m)
+kept m (Some c) = Some c
+
+abbrev pub raised : Model → Model
+raised s = record { memory = s .memory; copy = kept (s .memory) (s .copy) }
+
+-- the field goes off: the copy is gone; off while off changes nothing
+abbrev pub dropped : Model → Model
+dropped s = record { memory = s .memory; copy = None }
+
+abbrev pub withMemory : Model → Memory → Model
+withMemory s m = record { memory = m; copy = s .copy }
+
+-- why the bench is refused, by the block number and the buffer's length: the first that fits
+abbrev pub BenchRefused : ℕ → ℕ → Refusal → Type 0
+BenchRefused b n NoSuchBlock = blockCount ≤ b
+BenchRefused b n NotBlockSized = (b < blockCount) × (n ≡ blockSize → ⊥)
+BenchRefused b n NotImageSized = ⊥
+
+-- a refused read leaves the buffer
+abbrev pub BenchRead : Model → ℕ → List ℕ → Result (Unit {0}) Refusal → List ℕ → Model → Type 0
+BenchRead s b before (Ok u) after t = (b < blockCount) × (length before ≡ blockSize) × (after ≡ blockAt (s .memory) b) × (t ≡ s)
+BenchRead s b before (Err e) after t = BenchRefused b (length before) e × (after ≡ before) × (t ≡ s)
+
+abbrev pub BenchWritten : Model → ℕ → List ℕ → Result (Unit {0}) Refusal → Model → Type 0
+BenchWritten s b bytes (Ok u) t = (b < blockCount) × (length bytes ≡ blockSize) × (t ≡ withMemory s (withBlock (s .memory) b bytes))
+BenchWritten s b bytes (Err e) t = BenchRefused b (length bytes) e × (t ≡ s)
+
+-- with the field off no block is writable
+abbrev pub Shown : Option (List ℕ) → Writable → Type 0
+Shown None w = (w .count ≡ 0) × (w .lowest ≡ None)
+Shown (Some protection) w = Figure protection w
+
+abbrev pub protectionOf : Option Copy → Option (List ℕ)
+protectionOf None = None
+protectionOf (Some c) = Some (c .protection)
+
+abbrev pub Step : Model → Event → Model → Type 0
+Step s field-on t = t ≡ raised s
+Step s field-off t = t ≡ dropped s
+Step s (bench-read b before r after) t = BenchRead s b before r after t
+Step s (bench-write b bytes r) t = BenchWritten s b bytes r t
+Step s (bench-writable w) t = Shown (protectionOf (s .copy)) w × (t ≡ s)
