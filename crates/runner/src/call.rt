@@ -1,0 +1,24 @@
+use memory::Refusal;
+use system::Writable;
+
+// A call on a tag, with its arguments.
+#[derive(Clone, Copy)]
+pub enum Call<'a> {
+    FieldOn,
+    FieldOff,
+    // into a buffer of that many zeros
+    BenchRead { block: u16, into: usize },
+    BenchWrite { block: u16, bytes: &'a [u8] },
+    BenchWritable,
+}
+
+// What a call answers.
+#[derive(Drop)]
+pub enum Answer {
+    // a field change answers nothing
+    Field,
+    // with the buffer as the read left it
+    Read { result: Result<(), Refusal>, buffer: Vec<u8> },
+    Written { result: Result<(), Refusal> },
+    Figure { writable: Writable },
+}
