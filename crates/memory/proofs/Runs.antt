@@ -97,10 +97,10 @@ read-turn m x₀ x a k n b o v w held ys s inv kn at on b< eh ev ew ey =
     let f = bytesFrom m a k in
     let lf : length f ≡ k = length-from m a k in
     let e : ys ≡ bytesFrom m (a + k) n =
-        ey ∙ ap₂ (λ (y : ℕ) (z : List ℕ). take y (drop o z)) ev eh ∙ sym (taken-from-block m b o n on (s .each b b<)) ∙ ap (λ (z : ℕ). bytesFrom m z n) at in
+    ey ∙ ap₂ (λ (y : ℕ) (z : List ℕ). take y (drop o z)) ev eh ∙ sym (taken-from-block m b o n on (s .each b b<)) ∙ ap (λ (z : ℕ). bytesFrom m z n) at in
     let t : take k x ≡ f = ap (take k) inv ∙ take-at f (drop k x₀) k lf in
     let r : drop w (drop k x) ≡ drop (k + n) x₀ =
-        ap₂ (λ (y : ℕ) (z : List ℕ). drop y (drop k z)) ew inv ∙ ap (drop n) (drop-at f (drop k x₀) k lf) ∙ drop-drop n k x₀ in
+    ap₂ (λ (y : ℕ) (z : List ℕ). drop y (drop k z)) ew inv ∙ ap (drop n) (drop-at f (drop k x₀) k lf) ∙ drop-drop n k x₀ in
     ap₂ (λ (y z : List ℕ). y ++ (ys ++ z)) t r
     ∙ ap (λ (z : List ℕ). f ++ (z ++ drop (k + n) x₀)) e
     ∙ sym (append-assoc f (bytesFrom m (a + k) n) (drop (k + n) x₀))

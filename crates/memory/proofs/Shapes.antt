@@ -16,8 +16,9 @@ sized-set m b n d j ld lj = elim (cases-eq j b) [ inl e ↦ here e | inr ne ↦ 
   where
     here : j ≡ b → length (blockAt (set m b d) j) ≡ n
     here e = elim (cases-lt b (length m)) [
-        inl l ↦ ap (λ (k : ℕ). length (blockAt (set m b d) k)) e ∙ ap length (getD-set-same m b d [] l) ∙ ld
-      | inr l ↦ ap (λ (z : Memory). length (blockAt z j)) (set-past m b d l) ∙ lj ]
+      | inl l ↦ ap (λ (k : ℕ). length (blockAt (set m b d) k)) e ∙ ap length (getD-set-same m b d [] l) ∙ ld
+      | inr l ↦ ap (λ (z : Memory). length (blockAt z j)) (set-past m b d l) ∙ lj
+    ]
 
 -- and where one byte of a block is replaced
 pub sized-byte : (m : Memory) (b o v j : ℕ) → length (blockAt (withByte m b o v) j) ≡ length (blockAt m j)
@@ -25,10 +26,11 @@ sized-byte m b o v j = elim (cases-eq j b) [ inl e ↦ here e | inr ne ↦ ap le
   where
     here : j ≡ b → length (blockAt (withByte m b o v) j) ≡ length (blockAt m j)
     here e = elim (cases-lt b (length m)) [
-        inl l ↦
-        ap (λ (k : ℕ). length (blockAt (withByte m b o v) k)) e ∙ ap length (getD-set-same m b (set (blockAt m b) o v) [] l) ∙ length-set (blockAt m b) o v
-        ∙ ap (λ (k : ℕ). length (blockAt m k)) (sym e)
-      | inr l ↦ ap (λ (z : Memory). length (blockAt z j)) (set-past m b (set (blockAt m b) o v) l) ]
+      | inl l ↦
+          ap (λ (k : ℕ). length (blockAt (withByte m b o v) k)) e ∙ ap length (getD-set-same m b (set (blockAt m b) o v) [] l) ∙ length-set (blockAt m b) o v
+          ∙ ap (λ (k : ℕ). length (blockAt m k)) (sym e)
+      | inr l ↦ ap (λ (z : Memory). length (blockAt z j)) (set-past m b (set (blockAt m b) o v) l)
+    ]
 
 pub shaped-byte : (m : Memory) (b o v : ℕ) → Shaped m → Shaped (withByte m b o v)
 shaped-byte m b o v s = record { count = length-set m b (set (blockAt m b) o v) ∙ s .count; each = λ j l. sized-byte m b o v j ∙ s .each j l }

@@ -20,11 +20,7 @@ impl Address {
     pub fn new(at: u16) -> Option<Address>
         ensures { λ r. ⌜ Cases r (memorySize ≤ at) (λ a. (at < memorySize) × (a .at ≡ at)) ⌝ }
     {
-        if at < 512 {
-            Some(Address { at })
-        } else {
-            None
-        }
+        if at < 512 { Some(Address { at }) } else { None }
     }
 
     // An address that is known to be one.
@@ -35,7 +31,7 @@ impl Address {
         Address { at }
     }
 
-    pub fn at(self) -> u16
+    pub fn value(self) -> u16
         ensures { λ r. ⌜ r ≡ self .at ⌝ }
     {
         self.at
@@ -46,6 +42,9 @@ impl Address {
         ensures block { λ r. ⌜ r .0 .index ≡ blockOf (self .at) ⌝ }
         ensures offset { λ r. ⌜ r .1 ≡ offsetOf (self .at) ⌝ }
     {
-        (BlockNumber::known((self.at / 16) as u8), (self.at % 16) as usize)
+        (
+            BlockNumber::known((self.value() / 16) as u8),
+            (self.value() % 16) as usize,
+        )
     }
 }

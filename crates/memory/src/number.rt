@@ -16,7 +16,9 @@ impl BlockNumber {
         ensures { λ r. ⌜ Cases r (blockCount ≤ number) (λ b. (number < blockCount) × (b .index ≡ number)) ⌝ }
     {
         if number < 32 {
-            Some(BlockNumber { index: number as u8 })
+            Some(BlockNumber {
+                index: number as u8,
+            })
         } else {
             None
         }

@@ -1,3 +1,7 @@
+ghost use mathlib.Core.Path.{_≡_};
+ghost use Prim.Native.Nat.{_+_, _≤_};
+ghost use lib.ListN.{length};
+ghost use Rattle.memory.specs.Memory.{memorySize, bytesFrom, withBytes};
 ghost use Rattle.memory.specs.Ranges.{RangeRead, RangeWritten};
 use crate::address::Address;
 use crate::blocks::Store;
@@ -10,10 +14,30 @@ pub struct PastEnd;
 pub fn read_bytes<S: Store>(store: &S, start: Address, out: &mut [u8]) -> Result<(), PastEnd>
     ensures { λ r. ⌜ RangeRead (blocks (now (store .entry))) (start .at) (now (out .entry)) r (now (out .exit)) ⌝ }
 {
-    let from = start.at() as usize;
-    if out.len() > 512 - from {
+    if out.len() > 512 - start.value() as usize {
         return Err(PastEnd);
     }
+    fill_from(store, start, out);
+    Ok(())
+}
+
+// Writes the data from an address on. The bytes of its first and last block that lie outside stay.
+pub fn write_bytes<S: Store>(store: &mut S, start: Address, data: &[u8]) -> Result<(), PastEnd>
+    ensures { λ r. ⌜ RangeWritten (blocks (now (store .entry))) (start .at) (now («data» .entry)) r (blocks (now (store .exit))) ⌝ }
+{
+    if data.len() > 512 - start.value() as usize {
+        return Err(PastEnd);
+    }
+    put_from(store, start, data);
+    Ok(())
+}
+
+// Goes from block to block: what is left of the block, or of the range, at a time.
+fn fill_from<S: Store>(store: &S, start: Address, out: &mut [u8])
+    requires { ⌜ start .at + length (now out) ≤ memorySize ⌝ }
+    ensures { λ _. ⌜ now (out .exit) ≡ bytesFrom (blocks (now (store .entry))) (start .at) (length (now (out .entry))) ⌝ }
+{
+    let from = start.value() as usize;
     let mut done = 0;
     while done < out.len() {
         let (block, offset) = Address::known((from + done) as u16).lookup();
@@ -22,17 +46,13 @@ pub fn read_bytes<S: Store>(store: &S, start: Address, out: &mut [u8]) -> Result
         out[done..done + n].copy_from_slice(&held[offset..offset + n]);
         done += n;
     }
-    Ok(())
 }
 
-// Writes the data from an address on. The bytes of its first and last block that lie outside stay.
-pub fn write_bytes<S: Store>(store: &mut S, start: Address, data: &[u8]) -> Result<(), PastEnd>
-    ensures { λ r. ⌜ RangeWritten (blocks (now (store .entry))) (start .at) (now («data» .entry)) r (blocks (now (store .exit))) ⌝ }
+fn put_from<S: Store>(store: &mut S, start: Address, data: &[u8])
+    requires { ⌜ start .at + length (now «data») ≤ memorySize ⌝ }
+    ensures { λ _. ⌜ blocks (now (store .exit)) ≡ withBytes (blocks (now (store .entry))) (start .at) (now («data» .entry)) ⌝ }
 {
-    let from = start.at() as usize;
-    if data.len() > 512 - from {
-        return Err(PastEnd);
-    }
+    let from = start.value() as usize;
     let mut done = 0;
     while done < data.len() {
         let (block, offset) = Address::known((from + done) as u16).lookup();
@@ -42,5 +62,4 @@ pub fn write_bytes<S: Store>(store: &mut S, start: Address, data: &[u8]) -> Resu
         store.write(block, &held);
         done += n;
     }
-    Ok(())
 }

@@ -18,7 +18,14 @@ pub enum Answer {
     // a field change answers nothing
     Field,
     // with the buffer as the read left it
-    Read { result: Result<(), Refusal>, buffer: Vec<u8> },
-    Written { result: Result<(), Refusal> },
-    Figure { writable: Writable },
+    Read {
+        result: Result<(), Refusal>,
+        buffer: Vec<u8>,
+    },
+    Written {
+        result: Result<(), Refusal>,
+    },
+    Figure {
+        writable: Writable,
+    },
 }

@@ -11,7 +11,11 @@ use std::alloc::Global;
 use tag::Tag;
 
 // Performs one call of any kind. For want of memory for its buffer the call is not made, and the tag stays as it was.
-pub fn perform<S: Store>(heap: Global, tag: &mut Tag<S>, call: &Call<'_>) -> Result<Answer, AllocError>
+pub fn perform<S: Store>(
+    heap: Global,
+    tag: &mut Tag<S>,
+    call: &Call<'_>,
+) -> Result<Answer, AllocError>
     ensures { λ r. ⌜ Cases r (λ a. Performed blocks (now (tag .entry)) (now (call .entry)) a (now (tag .exit))) (λ _. now (tag .exit) ≡ now (tag .entry)) ⌝ }
 {
     match call {
@@ -28,13 +32,21 @@ pub fn perform<S: Store>(heap: Global, tag: &mut Tag<S>, call: &Call<'_>) -> Res
             let result = tag.bench_read(*block, buffer.as_mut_slice());
             Ok(Answer::Read { result, buffer })
         }
-        Call::BenchWrite { block, bytes } => Ok(Answer::Written { result: tag.bench_write(*block, bytes) }),
-        Call::BenchWritable => Ok(Answer::Figure { writable: tag.bench_writable() }),
+        Call::BenchWrite { block, bytes } => Ok(Answer::Written {
+            result: tag.bench_write(*block, bytes),
+        }),
+        Call::BenchWritable => Ok(Answer::Figure {
+            writable: tag.bench_writable(),
+        }),
     }
 }
 
 // Makes a tag over the store and performs the calls one after the other.
-pub fn run<S: Store + Drop>(heap: Global, store: S, calls: &[Call<'_>]) -> Result<(Tag<S>, Vec<Answer>), AllocError>
+pub fn run<S: Store + Drop>(
+    heap: Global,
+    store: S,
+    calls: &[Call<'_>],
+) -> Result<(Tag<S>, Vec<Answer>), AllocError>
     ensures { λ r. ⌜ made r (λ p. Performed-all blocks store (now (calls .entry)) (vec-items (p .1)) (p .0)) ⌝ }
 {
     let mut tag = Tag::new(store);

@@ -45,8 +45,8 @@ cut-with (suc n) xs (suc b) d h l e =
     let first : take 16 (take (16 * suc b) xs ++ r) ≡ take 16 xs = take-append-le 16 (take (16 * suc b) xs) r lt ∙ take-take 16 (16 * suc b) xs big in
     let k : 16 + (16 * b + length d) ≡ 16 * suc b + length d = omega arith in
     let rest : drop 16 (take (16 * suc b) xs ++ r) ≡ with ys (16 * b) d =
-        drop-append-le 16 (take (16 * suc b) xs) r lt
-        ∙ ap₂ (λ (y z : List ℕ). y ++ (d ++ z)) (ap (λ (j : ℕ). drop 16 (take j xs)) a ∙ drop-take 16 (16 * b) xs) (ap (λ (j : ℕ). drop j xs) (sym k) ∙ sym (drop-drop (16 * b + length d) 16 xs)) in
+    drop-append-le 16 (take (16 * suc b) xs) r lt
+    ∙ ap₂ (λ (y z : List ℕ). y ++ (d ++ z)) (ap (λ (j : ℕ). drop 16 (take j xs)) a ∙ drop-take 16 (16 * b) xs) (ap (λ (j : ℕ). drop j xs) (sym k) ∙ sym (drop-drop (16 * b + length d) 16 xs)) in
     ap₂ (λ (y z : List ℕ). y ∷ cut n z) first rest ∙ ap (λ (z : Memory). take 16 xs ∷ z) (cut-with n ys b d lb ly e)
 
 -- blocks written one after the other from block b on: those before stay
@@ -66,7 +66,7 @@ written-from (suc k) b m xs sh e lx =
     let o : 16 * b ≡ 16 * b + 0 = omega arith in
     let room : 0 + length (take 16 xs) ≤ 16 = omega arith in
     let one : withBytes m (16 * b) t ≡ set m b t =
-        ap (λ (z : ℕ). withBytes m z t) o ∙ put-in-block m b 0 t bm room ∙ ap (set m b) (all-set (blockAt m b) t 16 (sh b bm) lt) in
+    ap (λ (z : ℕ). withBytes m z t) o ∙ put-in-block m b 0 t bm room ∙ ap (set m b) (all-set (blockAt m b) t 16 (sh b bm) lt) in
     let next : 16 * b + length (take 16 xs) ≡ 16 * (suc b) = omega arith in
     let e′ : suc b + k ≡ length (set m b t) = simp length-set (omega arith) in
     ap (withBytes m (16 * b)) (sym (take-append-drop 16 xs))

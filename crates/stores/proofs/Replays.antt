@@ -37,13 +37,14 @@ heldOr d (Some e) = e .bytes
 
 hit : (m : Memory) (e : Entry) (b : ℕ) → b < length m → blockAt (withBlock m (e .block .index) (e .bytes)) b ≡ heldOr (blockAt m b) (cond (eqb (e .block .index) b) (Some e) None)
 hit m e b h = elim (cases-eq (e .block .index) b) [
-    inl q ↦
-    let l : e .block .index < length m = omega arith in
-    ap (λ (k : ℕ). blockAt (withBlock m (e .block .index) (e .bytes)) k) (sym q) ∙ getD-set-same m (e .block .index) (e .bytes) [] l
-    ∙ ap (λ (t : Bool). heldOr (blockAt m b) (cond t (Some e) None)) (sym (eq-eqb (e .block .index) b q))
+  | inl q ↦
+      let l : e .block .index < length m = omega arith in
+      ap (λ (k : ℕ). blockAt (withBlock m (e .block .index) (e .bytes)) k) (sym q) ∙ getD-set-same m (e .block .index) (e .bytes) [] l
+      ∙ ap (λ (t : Bool). heldOr (blockAt m b) (cond t (Some e) None)) (sym (eq-eqb (e .block .index) b q))
   | inr ne ↦
-    getD-set-other m (e .block .index) b (e .bytes) [] (λ q. ne (sym q))
-    ∙ ap (λ (t : Bool). heldOr (blockAt m b) (cond t (Some e) None)) (sym (ne-eqb (e .block .index) b ne)) ]
+      getD-set-other m (e .block .index) b (e .bytes) [] (λ q. ne (sym q))
+      ∙ ap (λ (t : Bool). heldOr (blockAt m b) (cond t (Some e) None)) (sym (ne-eqb (e .block .index) b ne))
+]
 
 older : (d d′ : List ℕ) (o x : Option Entry) → d′ ≡ heldOr d x → heldOr d′ o ≡ heldOr d (orOlder o x)
 older d d′ None x e = e
@@ -93,8 +94,10 @@ of-newest (e ∷ es) b = either (newest es b) (of-newest es b)
   where
     one : Of b (cond (eqb (e .block .index) b) (Some e) None)
     one = elim (cases-eq (e .block .index) b) [
-        inl q ↦ rw (eq-eqb (e .block .index) b q) q
-      | inr ne ↦ rw (ne-eqb (e .block .index) b ne) tt ]
+      | inl q ↦ rw (eq-eqb (e .block .index) b q) q
+      | inr ne ↦ rw (ne-eqb (e .block .index) b ne) tt
+    ]
+
     either : (o : Option Entry) → Of b o → Of b (orOlder o (cond (eqb (e .block .index) b) (Some e) None))
     either None h = one
     either (Some x) h = h
@@ -122,14 +125,15 @@ in-fold : (n : ℕ) (es : List Entry) (b : ℕ) → b < n → newest (fold n es)
 unfolding fold
 in-fold zero es b h = absurd (not-suc-le-zero h)
 in-fold (suc n) es b h = newest-append (fold n es) (listOf (newest es n)) b ∙ elim (cases-lt b n) [
-    inl l ↦
-    let ne : n ≡ b → ⊥ = λ q. omega arith in
-    ap₂ orOlder (alone-other (newest es n) n b (of-newest es n) ne) (in-fold n es b l)
+  | inl l ↦
+      let ne : n ≡ b → ⊥ = λ q. omega arith in
+      ap₂ orOlder (alone-other (newest es n) n b (of-newest es n) ne) (in-fold n es b l)
   | inr l ↦
-    let q : b ≡ n = omega arith in
-    ap (λ (k : ℕ). orOlder (newest (listOf (newest es n)) k) (newest (fold n es) k)) q
-    ∙ ap₂ orOlder (alone-here (newest es n) n (of-newest es n)) (past-fold n es n (omega arith))
-    ∙ or-older-none (newest es n) ∙ ap (newest es) (sym q) ]
+      let q : b ≡ n = omega arith in
+      ap (λ (k : ℕ). orOlder (newest (listOf (newest es n)) k) (newest (fold n es) k)) q
+      ∙ ap₂ orOlder (alone-here (newest es n) n (of-newest es n)) (past-fold n es n (omega arith))
+      ∙ or-older-none (newest es n) ∙ ap (newest es) (sym q)
+]
 
 pub fold-means : (es : List Entry) → replayed zeros (fold blockCount es) ≡ replayed zeros es
 fold-means es = ext-getD [] _ _ (long (fold blockCount es) ∙ sym (long es)) (λ b h.
@@ -161,6 +165,7 @@ fold-more n es kept more o e q m = m ∙ ap₂ (λ (x : List Entry) (y : Option 
 pub logged : (old room new : List Entry) (e : Entry) (b : ℕ) (d : List ℕ) → new ≡ room ++ e ∷ [] → room ≡ withRoom old → e .block .index ≡ b → e .bytes ≡ d →
     (replayed zeros new ≡ withBlock (replayed zeros old) b d) × Logged old b d new
 logged old room new e b d a r en ed =
-    let added : new ≡ withRoom old ++ e ∷ [] = a ∙ ap (λ (es : List Entry). es ++ e ∷ []) r in
-    (ap (replayed zeros) added ∙ replayed-push zeros (withRoom old) e ∙ ap (λ (m : Memory). withBlock m (e .block .index) (e .bytes)) (room-means old) ∙ ap₂ (withBlock (replayed zeros old)) en ed,
-     record { entry = e; number = en; bytes = ed; added = added })
+    let added : new ≡ withRoom old ++ e ∷ [] = a ∙ ap (λ (es : List Entry). es ++ e ∷ []) r in (
+      ap (replayed zeros) added ∙ replayed-push zeros (withRoom old) e ∙ ap (λ (m : Memory). withBlock m (e .block .index) (e .bytes)) (room-means old) ∙ ap₂ (withBlock (replayed zeros old)) en ed,
+      record { entry = e; number = en; bytes = ed; added = added },
+    )

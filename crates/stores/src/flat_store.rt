@@ -1,5 +1,6 @@
 ghost use mathlib.Core.Path.{_≡_};
-ghost use Rattle.memory.specs.Memory.{zeros};
+ghost use lib.ListN.{length};
+ghost use Rattle.memory.specs.Memory.{blockAt, blocksOf, memorySize, withBlock, zeros};
 ghost use Rattle.stores.specs.Flat.{flatBlocks};
 ghost use Rattle.stores.specs.Images.{Loaded};
 use crate::flat::FlatStore;
@@ -28,18 +29,32 @@ impl FlatStore {
     }
 }
 
+// The 16 cells of a block.
+fn block_of(cells: &[u8; 512], b: BlockNumber) -> [u8; 16]
+    ensures { λ r. ⌜ r ≡ blockAt (blocksOf (now (cells .entry))) (b .index) ⌝ }
+{
+    let start = 16 * b.index() as usize;
+    let mut block = [0; 16];
+    block.copy_from_slice(&cells[start..start + 16]);
+    block
+}
+
+fn set_block(cells: &mut [u8; 512], b: BlockNumber, block: &[u8; 16])
+    ensures blocks { λ _. ⌜ blocksOf (now (cells .exit)) ≡ withBlock (blocksOf (now (cells .entry))) (b .index) (now (block .entry)) ⌝ }
+    ensures full { λ _. ⌜ length (now (cells .exit)) ≡ memorySize ⌝ }
+{
+    let start = 16 * b.index() as usize;
+    cells[start..start + 16].copy_from_slice(block);
+}
+
 pub impl Store for FlatStore as FlatStoreStore {
     ghost blocks = { flatBlocks };
 
     fn read(&self, b: BlockNumber) -> [u8; 16] {
-        let start = 16 * b.index() as usize;
-        let mut block = [0; 16];
-        block.copy_from_slice(&self.cells[start..start + 16]);
-        block
+        block_of(&self.cells, b)
     }
 
     fn write(&mut self, b: BlockNumber, block: &[u8; 16]) {
-        let start = 16 * b.index() as usize;
-        self.cells[start..start + 16].copy_from_slice(block);
+        set_block(&mut self.cells, b, block);
     }
 }

@@ -30,8 +30,13 @@ impl LogStore {
         ensures blocks { λ r. ⌜ logBlocks r ≡ zeros ⌝ }
         ensures none { λ r. ⌜ r .log .count ≡ 0 ⌝ }
     {
-        let filling = Entry { block: BlockNumber::known(0), bytes: [0; 16] };
-        LogStore { log: Table::empty(filling) }
+        let filling = Entry {
+            block: BlockNumber::known(0),
+            bytes: [0; 16],
+        };
+        LogStore {
+            log: Table::empty(filling),
+        }
     }
 
     // A store that holds an image of the whole memory, an entry for each block.
@@ -96,6 +101,27 @@ impl LogStore {
         *self = kept;
     }
 
+    // A block without an entry holds zeros.
+    fn newest_bytes(&self, b: BlockNumber) -> [u8; 16]
+        ensures { λ r. ⌜ r ≡ blockAt (logBlocks (now (self .entry))) (b .index) ⌝ }
+    {
+        match self.newest(b) {
+            Some(e) => e.bytes,
+            None => [0; 16],
+        }
+    }
+
+    fn log_write(&mut self, b: BlockNumber, block: &[u8; 16])
+        ensures blocks { λ _. ⌜ logBlocks (now (self .exit)) ≡ withBlock (logBlocks (now (self .entry))) (b .index) (now (block .entry)) ⌝ }
+        ensures logged { λ _. ⌜ Logged (entries (now (self .entry))) (b .index) (now (block .entry)) (entries (now (self .exit))) ⌝ }
+    {
+        self.make_room();
+        self.append(Entry {
+            block: b,
+            bytes: *block,
+        });
+    }
+
     fn make_room(&mut self)
         ensures entries { λ _. ⌜ entries (now (self .exit)) ≡ withRoom (entries (now (self .entry))) ⌝ }
         ensures room { λ _. ⌜ now (self .exit) .log .count < capacity ⌝ }
@@ -110,18 +136,14 @@ pub impl Store for LogStore as LogStoreStore {
     ghost blocks = { logBlocks };
 
     fn read(&self, b: BlockNumber) -> [u8; 16] {
-        match self.newest(b) {
-            Some(e) => e.bytes,
-            None => [0; 16],
-        }
+        self.newest_bytes(b)
     }
 
     fn write(&mut self, b: BlockNumber, block: &[u8; 16])
         ensures blocks { λ _. ⌜ logBlocks (now (self .exit)) ≡ withBlock (logBlocks (now (self .entry))) (b .index) (now (block .entry)) ⌝ }
         ensures logged { λ _. ⌜ Logged (entries (now (self .entry))) (b .index) (now (block .entry)) (entries (now (self .exit))) ⌝ }
     {
-        self.make_room();
-        self.append(Entry { block: b, bytes: *block });
+        self.log_write(b, block);
     }
 }
 

@@ -24,7 +24,10 @@ impl<T: Copy> Table<T> {
         ensures full { λ r. ⌜ length (r .cells) ≡ 64 ⌝ }
         ensures count { λ r. ⌜ r .count ≡ 0 ⌝ }
     {
-        Table { cells: [filling; 64], count: 0 }
+        Table {
+            cells: [filling; 64],
+            count: 0,
+        }
     }
 
     pub(crate) fn get(&self, i: usize) -> T

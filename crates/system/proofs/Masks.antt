@@ -41,8 +41,8 @@ ones-count (suc k) m p h bits =
     let z : 0 < suc k = omega arith in
     let e : m % 2 ≡ cond (p 0) 1 0 = ap (λ (x : ℕ). x % 2) (sym (zero-shr m)) ∙ bits 0 z in
     let r : ones (m / 2) ≡ countBelow k (λ b. p (suc b)) = ones-count k (m / 2) (λ b. p (suc b)) l (λ b lb.
-        let q : suc b < suc k = omega arith in
-        ap (λ (x : ℕ). x % 2) (half-shr m b) ∙ bits (suc b) q) in
+    let q : suc b < suc k = omega arith in
+    ap (λ (x : ℕ). x % 2) (half-shr m b) ∙ bits (suc b) q) in
     ones-step m ∙ ap (λ (x : ℕ). x + ones (m / 2)) e ∙ ap (λ (x : ℕ). cond (p 0) 1 0 + x) r
 
 -- below the lowest set bit there is none, and it is set
@@ -50,33 +50,36 @@ pub low-zeros : (k m b : ℕ) → b < trailingZeros k m → m / 2 ^ b % 2 ≡ 0
 unfolding trailingZeros
 low-zeros zero m b h = absurd (not-suc-le-zero h)
 low-zeros (suc k) m zero h = elim (cases-eq (m % 2) 0) [
-    inl e ↦ ap (λ (x : ℕ). x % 2) (zero-shr m) ∙ e
+  | inl e ↦ ap (λ (x : ℕ). x % 2) (zero-shr m) ∙ e
   | inr ne ↦
-    let one : m % 2 ≡ 1 = omega arith in
-    let t : under (m % 2) (trailingZeros k (m / 2)) ≡ 0 = ap (λ (d : ℕ). under d (trailingZeros k (m / 2))) one in
-    omega arith ]
+      let one : m % 2 ≡ 1 = omega arith in
+      let t : under (m % 2) (trailingZeros k (m / 2)) ≡ 0 = ap (λ (d : ℕ). under d (trailingZeros k (m / 2))) one in
+      omega arith
+]
 low-zeros (suc k) m (suc b) h = elim (cases-eq (m % 2) 0) [
-    inl e ↦
-    let t : under (m % 2) (trailingZeros k (m / 2)) ≡ suc (trailingZeros k (m / 2)) = ap (λ (d : ℕ). under d (trailingZeros k (m / 2))) e in
-    let l : b < trailingZeros k (m / 2) = omega arith in
-    ap (λ (x : ℕ). x % 2) (sym (half-shr m b)) ∙ low-zeros k (m / 2) b l
+  | inl e ↦
+      let t : under (m % 2) (trailingZeros k (m / 2)) ≡ suc (trailingZeros k (m / 2)) = ap (λ (d : ℕ). under d (trailingZeros k (m / 2))) e in
+      let l : b < trailingZeros k (m / 2) = omega arith in
+      ap (λ (x : ℕ). x % 2) (sym (half-shr m b)) ∙ low-zeros k (m / 2) b l
   | inr ne ↦
-    let one : m % 2 ≡ 1 = omega arith in
-    let t : under (m % 2) (trailingZeros k (m / 2)) ≡ 0 = ap (λ (d : ℕ). under d (trailingZeros k (m / 2))) one in
-    omega arith ]
+      let one : m % 2 ≡ 1 = omega arith in
+      let t : under (m % 2) (trailingZeros k (m / 2)) ≡ 0 = ap (λ (d : ℕ). under d (trailingZeros k (m / 2))) one in
+      omega arith
+]
 
 pub low-one : (k m : ℕ) → trailingZeros k m < k → m / 2 ^ trailingZeros k m % 2 ≡ 1
 unfolding trailingZeros
 low-one zero m h = absurd (not-suc-le-zero h)
 low-one (suc k) m h = elim (cases-eq (m % 2) 0) [
-    inl e ↦
-    let t : under (m % 2) (trailingZeros k (m / 2)) ≡ suc (trailingZeros k (m / 2)) = ap (λ (d : ℕ). under d (trailingZeros k (m / 2))) e in
-    let l : trailingZeros k (m / 2) < k = omega arith in
-    ap (λ (x : ℕ). m / 2 ^ x % 2) t ∙ ap (λ (x : ℕ). x % 2) (sym (half-shr m (trailingZeros k (m / 2)))) ∙ low-one k (m / 2) l
+  | inl e ↦
+      let t : under (m % 2) (trailingZeros k (m / 2)) ≡ suc (trailingZeros k (m / 2)) = ap (λ (d : ℕ). under d (trailingZeros k (m / 2))) e in
+      let l : trailingZeros k (m / 2) < k = omega arith in
+      ap (λ (x : ℕ). m / 2 ^ x % 2) t ∙ ap (λ (x : ℕ). x % 2) (sym (half-shr m (trailingZeros k (m / 2)))) ∙ low-one k (m / 2) l
   | inr ne ↦
-    let one : m % 2 ≡ 1 = omega arith in
-    let t : under (m % 2) (trailingZeros k (m / 2)) ≡ 0 = ap (λ (d : ℕ). under d (trailingZeros k (m / 2))) one in
-    ap (λ (x : ℕ). m / 2 ^ x % 2) t ∙ ap (λ (x : ℕ). x % 2) (zero-shr m) ∙ one ]
+      let one : m % 2 ≡ 1 = omega arith in
+      let t : under (m % 2) (trailingZeros k (m / 2)) ≡ 0 = ap (λ (d : ℕ). under d (trailingZeros k (m / 2))) one in
+      ap (λ (x : ℕ). m / 2 ^ x % 2) t ∙ ap (λ (x : ℕ). x % 2) (zero-shr m) ∙ one
+]
 
 -- what a bit says of its test
 pub is-set : (b : Bool) → cond {A = ℕ} b 1 0 ≡ 1 → b ≡ true

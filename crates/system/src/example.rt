@@ -1,7 +1,24 @@
 ghost use mathlib.Core.Path.{_≡_};
 ghost use Rattle.system.specs.Example.{exampleImage, exampleIdentity, exampleProtection};
 
-const IDENTITY: [u8; 16] = [0x12, 0xFC, 1, 2, 3, 4, 5, 6, 7, 8, 0x0B, 0x0C, 0x35, 0x04, 0, 0];
+const IDENTITY: [u8; 16] = [
+    0x12,
+    0xFC,
+    1,
+    2,
+    3,
+    4,
+    5,
+    6,
+    7,
+    8,
+    0x0B,
+    0x0C,
+    0x35,
+    0x04,
+    0,
+    0,
+];
 
 const PROTECTION: [u8; 16] = [0x08, 0, 0, 0x04, 0, 0, 0, 0, 0x18, 0, 0, 0, 0, 0, 0, 0];
 

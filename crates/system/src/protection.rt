@@ -105,9 +105,15 @@ impl Protection {
         let count = mask.count_ones();
         let low = mask.trailing_zeros();
         if low < 27 {
-            Writable { count, lowest: Some(BlockNumber::known(low as u8)) }
+            Writable {
+                count,
+                lowest: Some(BlockNumber::known(low as u8)),
+            }
         } else {
-            Writable { count, lowest: None }
+            Writable {
+                count,
+                lowest: None,
+            }
         }
     }
 }

@@ -43,16 +43,18 @@ put-there m b o v s hb ho =
 
 put-elsewhere : (m : Memory) (b o c p v : ℕ) → Shaped m → b < blockCount → ((b ≡ c) × (o ≡ p) → ⊥) → byteAt (withByte m c p v) b o ≡ byteAt m b o
 put-elsewhere m b o c p v s hb ne = elim (cases-eq b c) [
-    inl e ↦
-    let lc : c < length m = omega (arith, s .count) in
-    ap (λ (k : ℕ). byteAt (withByte m c p v) k o) e ∙ ap (λ (x : List ℕ). getD x o 0) (getD-set-same m c (set (blockAt m c) p v) [] lc)
-    ∙ getD-set-other (blockAt m c) p o v 0 (λ q. ne (e, q)) ∙ ap (λ (k : ℕ). byteAt m k o) (sym e)
-  | inr d ↦ ap (λ (x : List ℕ). getD x o 0) (getD-set-other m c b (set (blockAt m c) p v) [] d) ]
+  | inl e ↦
+      let lc : c < length m = omega (arith, s .count) in
+      ap (λ (k : ℕ). byteAt (withByte m c p v) k o) e ∙ ap (λ (x : List ℕ). getD x o 0) (getD-set-same m c (set (blockAt m c) p v) [] lc)
+      ∙ getD-set-other (blockAt m c) p o v 0 (λ q. ne (e, q)) ∙ ap (λ (k : ℕ). byteAt m k o) (sym e)
+  | inr d ↦ ap (λ (x : List ℕ). getD x o 0) (getD-set-other m c b (set (blockAt m c) p v) [] d)
+]
 
 same-place : (b o c p : ℕ) → ((b ≡ c) × (o ≡ p)) ⊎ ((b ≡ c) × (o ≡ p) → ⊥)
 same-place b o c p = elim (cases-eq b c) [
-    inl e ↦ elim (cases-eq o p) [ inl q ↦ inl (e, q) | inr n ↦ inr (λ w. n (w .1)) ]
-  | inr n ↦ inr (λ w. n (w .0)) ]
+  | inl e ↦ elim (cases-eq o p) [ inl q ↦ inl (e, q) | inr n ↦ inr (λ w. n (w .1)) ]
+  | inr n ↦ inr (λ w. n (w .0))
+]
 
 -- a byte after several: the last one put there, or the one that stood there
 module _ (b o : ℕ) (hb : b < blockCount) (ho : o < blockSize) where
@@ -73,7 +75,7 @@ module _ (b o : ℕ) (hb : b < blockCount) (ho : o < blockSize) where
               Last (p ∷ ps) b o (byteAt (puts m (p ∷ ps)) b o)
           found e f sp eq =
               let value : p .value ≡ byteAt (puts m (p ∷ ps)) b o =
-                  sym (eq ∙ ap₂ (λ (i j : ℕ). byteAt (withByte m i j (p .value)) b o) (sym e) (sym f) ∙ put-there m b o (p .value) s hb ho) in
+              sym (eq ∙ ap₂ (λ (i j : ℕ). byteAt (withByte m i j (p .value)) b o) (sym e) (sym f) ∙ put-there m b o (p .value) s hb ho) in
               let sp′ : Spares ps (p .block) (p .offset) = subst (λ j. Spares ps (p .block) j) f (subst (λ i. Spares ps i o) e sp) in
               subst (λ v. Last (p ∷ ps) b o v) value (subst (λ j. Last (p ∷ ps) b j (p .value)) (sym f) (subst (λ i. Last (p ∷ ps) i (p .offset) (p .value)) (sym e) (here sp′)))
       by (inr q) (inr ne) = inr ((ne, q .0), q .1 ∙ put-elsewhere m b o (p .block) (p .offset) (p .value) s hb ne)
@@ -81,5 +83,6 @@ module _ (b o : ℕ) (hb : b < blockCount) (ho : o < blockSize) where
   pub stands : (m : Memory) (h : History) → Shaped m → Stands m h b o (byteAt (expected m h) b o)
   stands m [] s = from-start
   stands m (e ∷ h) s = elim (placed (writes h e) (expected m h) (shaped-expected m h s)) [
-      inl l ↦ was-put l
-    | inr q ↦ stayed (q .0) (subst (λ v. Stands m h b o v) (sym (q .1)) (stands m h s)) ]
+    | inl l ↦ was-put l
+    | inr q ↦ stayed (q .0) (subst (λ v. Stands m h b o v) (sym (q .1)) (stands m h s))
+  ]

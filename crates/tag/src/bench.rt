@@ -44,7 +44,10 @@ impl<S: Store> Tag<S> {
         ensures { λ r. ⌜ Called blocks (now (self .entry)) (bench-writable r) (now (self .entry)) ⌝ }
     {
         match self.field {
-            Field::Off => Writable { count: 0, lowest: None },
+            Field::Off => Writable {
+                count: 0,
+                lowest: None,
+            },
             Field::On(copy) => copy.protection.writable(),
         }
     }

@@ -13,7 +13,10 @@ impl<S: Store> Tag<S> {
     pub fn new(store: S) -> Tag<S>
         ensures { λ r. ⌜ Made blocks store r ⌝ }
     {
-        Tag { store, field: Field::Off }
+        Tag {
+            store,
+            field: Field::Off,
+        }
     }
 
     // The field comes on: blocks 30 and 31 are copied, and the copy rules until the field goes off.
@@ -24,7 +27,10 @@ impl<S: Store> Tag<S> {
             Field::Off => {
                 let identity = Identity::new(&self.store.read(BlockNumber::known(30)));
                 let protection = Protection::new(&self.store.read(BlockNumber::known(31)));
-                self.field = Field::On(SystemCopy { identity, protection });
+                self.field = Field::On(SystemCopy {
+                    identity,
+                    protection,
+                });
             }
             Field::On(_) => {}
         }

@@ -15,11 +15,12 @@ loop-call-holds g c = λ store r. ([], subst (λ z. Told [] z []) (sym (c .new-a
 pub loop-call-again : need.loop-call-again
 loop-call-again g c = λ store r.
     let i = c .loop-call .inv store r in
-    let p = c .in-Continue-perform .ensures tt in
-    (p .event ∷ i .0,
-     told-more (c .args .calls .now) (c .loop-call .call-index) _ _ _ _ (c .in-Continue-perform .field-0) (i .0) (p .event) (c .loop-call-test .taken) refl
-       (c .in-Continue-push .ensures tt .items) (i .1) (p .tells),
-     call (i .2) (p .called))
+    let p = c .in-Continue-perform .ensures tt in (
+      p .event ∷ i .0,
+      told-more (c .args .calls .now) (c .loop-call .call-index) _ _ _ _ (c .in-Continue-perform .field-0) (i .0) (p .event) (c .loop-call-test .taken) refl
+          (c .in-Continue-push .ensures tt .items) (i .1) (p .tells),
+      call (i .2) (p .called),
+    )
 
 pub returns : need.returns
 returns g c =

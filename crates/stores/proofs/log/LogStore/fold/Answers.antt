@@ -14,7 +14,7 @@ loop-i-holds c = (ap (λ (n : ℕ). take n (c .zeros-kept .result .log .cells)) 
 pub loop-i-again : need.loop-i-again
 loop-i-again c = (
   fold-more (c .loop-i .i) (entries (c .args .self .now)) (entries (c .loop-i .kept′)) _ (c .newest .result) (c .loop-i .inv .0)
-  (c .newest .ensures ∙ ap (newest (entries (c .args .self .now))) (c .known .ensures)) (c .append-some .ensures .entries),
+      (c .newest .ensures ∙ ap (newest (entries (c .args .self .now))) (c .known .ensures)) (c .append-some .ensures .entries),
   omega arith,
 )
 

@@ -15,7 +15,7 @@ returns-then-index c =
     let l : c .loop-i .i - 1 < length (c .args .self .now .log .cells) = omega arith in
     let q : c .get-e .result .block .index ≡ c .args .b .index = omega arith in
     sym (c .loop-i .inv ∙ ap (λ (es : List Entry). newest es (c .args .b .index)) (last-taken (c .args .self .now .log .cells) (c .loop-i .i - 1) (c .loop-i .i) (c .get-e .result) s l (c .get-e .ensures .value))
-      ∙ newest-here (take (c .loop-i .i - 1) (c .args .self .now .log .cells)) (c .get-e .result) (c .args .b .index) q)
+    ∙ newest-here (take (c .loop-i .i - 1) (c .args .self .now .log .cells)) (c .get-e .result) (c .args .b .index) q)
 
 pub loop-i-again : need.loop-i-again
 loop-i-again c =

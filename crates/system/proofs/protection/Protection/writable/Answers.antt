@@ -15,10 +15,14 @@ returns-then-low-lt27 c =
     let one : m / 2 ^ c .known .result .index % 2 ≡ 1 = ap (λ (x : ℕ). m / 2 ^ x % 2) (c .known .ensures) ∙ low-one 32 m u in
     record {
       count = ones-count 27 m (mayWrite (c .args .self .now .bytes)) (c .unprotected-mask .ensures .small) bits;
-      lowest = (t, is-set _ (sym (bits (c .known .result .index) t) ∙ one), λ b h.
-        let b27 : b < 27 = omega arith in
-        let bt : b < trailingZeros 32 m = omega (arith, c .known .ensures) in
-        is-clear _ (sym (bits b b27) ∙ low-zeros 32 m b bt));
+      lowest = (
+        t,
+        is-set _ (sym (bits (c .known .result .index) t) ∙ one),
+        λ b h.
+            let b27 : b < 27 = omega arith in
+            let bt : b < trailingZeros 32 m = omega (arith, c .known .ensures) in
+            is-clear _ (sym (bits b b27) ∙ low-zeros 32 m b bt),
+      );
     }
 
 pub returns-else-low-lt27 : need.returns-else-low-lt27
@@ -28,6 +32,6 @@ returns-else-low-lt27 c =
     record {
       count = ones-count 27 m (mayWrite (c .args .self .now .bytes)) (c .unprotected-mask .ensures .small) bits;
       lowest = λ b h.
-        let bt : b < trailingZeros 32 m = omega arith in
-        is-clear _ (sym (bits b h) ∙ low-zeros 32 m b bt);
+          let bt : b < trailingZeros 32 m = omega arith in
+          is-clear _ (sym (bits b h) ∙ low-zeros 32 m b bt);
     }

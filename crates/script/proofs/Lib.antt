@@ -1,0 +1,5 @@
+pub mod Split
+pub mod Steps
+pub mod Spaces
+pub mod Back
+pub mod Blame

@@ -1,0 +1,19 @@
+use mathlib.Core.Path.{refl}
+use native.Mathlib.Omega.{arith}
+use lib.Dec.{lit<}
+use Rattle.memory.specs.Memory.{blocksOf}
+use Rattle.system.specs.Example.{exampleImage}
+use Rattle.system.specs.Protection.{flagged, countBelow, mayWrite}
+use Rattle.system.specs.Example.{exampleProtection}
+use Rattle.worked_cases.proofs.Figures.{least-is}
+use Rattle.worked_cases.proofs.worked_cases_hold.Needs as need
+
+pub returns : need.returns
+unfolding blocksOf exampleImage flagged countBelow
+returns c = record {
+  polling = refl;
+  request = refl;
+  wake-up = refl;
+  attrib-answer = refl;
+  writable = λ w t s. (s .0 .count, least-is 27 0 (mayWrite exampleProtection) (w .lowest) (lit< tt) refl (λ k h. absurd (omega arith)) (s .0 .lowest));
+}
