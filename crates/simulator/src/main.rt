@@ -26,7 +26,13 @@ use std::io::Write;
 mod options;
 
 fn main(rt: LibcRuntime) -> Result<(), AnyError> {
-    rt.report(run(&rt))
+    match run(&rt) {
+        Ok(()) => Ok(()),
+        Err(error) => {
+            eprintln!(rt, "simulator: {error}")?;
+            Err(error)
+        }
+    }
 }
 
 fn run(rt: &LibcRuntime) -> Result<(), AnyError> {
@@ -41,9 +47,12 @@ fn run(rt: &LibcRuntime) -> Result<(), AnyError> {
     Ok(())
 }
 
+// The whole file is read first, so that nothing runs of one that cannot be read.
 fn serve_file(rt: &LibcRuntime, path: &str) -> Result<u64, AnyError> {
-    let text = fs::read(rt, path)?;
-    serve(rt, text.as_slice())
+    match fs::read(rt, path) {
+        Ok(text) => serve(rt, text.as_slice()),
+        Err(error) => Err(format!(rt.alloc(), "cannot read {path}: {error}")?.into()),
+    }
 }
 
 // Answers each line before the next is read, and says how many could not be read.

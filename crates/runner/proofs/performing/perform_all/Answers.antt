@@ -7,7 +7,7 @@ use Rattle.tag.specs.Runs.{made, call}
 use Rattle.tag.proofs.Law.{kept-law}
 use Rattle.runner.specs.Told.{Told, none}
 use Rattle.runner.proofs.Telling.{told-more}
-use Rattle.runner.proofs.performing.run.Needs as need
+use Rattle.runner.proofs.performing.perform_all.Needs as need
 
 pub loop-call-holds : need.loop-call-holds
 loop-call-holds g c = λ store r. ([], subst (λ z. Told [] z []) (sym (c .new-answers .ensures .items)) none, r)
@@ -23,10 +23,10 @@ loop-call-again g c = λ store r.
     )
 
 pub returns : need.returns
-returns g c =
-    let i = c .loop-call .inv (c .args .store) (made (c .new-tag .ensures)) in
+returns g c = λ store m.
+    let i = c .loop-call .inv store (made m) in
     record {
       history = i .0;
       told = subst (λ z. Told z (vec-items (c .loop-call .answers)) (i .0)) (take-all (c .loop-call .call-index) (c .args .calls .now) (c .loop-call-test .left)) (i .1);
-      kept = kept-law (g .S·Store .blocks) (c .args .store) (g .S·Store·met .shaped (c .args .store)) (i .0) (c .loop-call .tag) (i .2);
+      kept = kept-law (g .S·Store .blocks) store (g .S·Store·met .shaped store) (i .0) (c .loop-call .tag) (i .2);
     }

@@ -4,7 +4,7 @@ use Rattle.std.specs.Of.Vec.{vec-items}
 use Rattle.tag.specs.Runs.{Ran}
 use Rattle.tag.specs.History.{History}
 use Rattle.runner.specs.Told.{Told}
-use Rattle.runner.proofs.performing.run.Given as given
+use Rattle.runner.proofs.performing.perform_all.Given as given
 
 -- the calls so far, with their answers, tell a history that led to the tag
 abbrev pub Inv-loop-call : given.InvT-loop-call
