@@ -1,7 +1,7 @@
 -- What is written is read again. Assumes nothing.
-use mathlib.Core.Path.{_≡_, refl, sym, ap, ap₂, _∙_}
-use mathlib.Core.Bool.{Bool, true, false, cond, _&&_}
-use mathlib.Core.List.{List, [], _∷_, _++_, append-nil}
+use mathlib.Core.Path.{_≡_, refl, ap, ap₂, _∙_}
+use mathlib.Core.Bool.{true, cond}
+use mathlib.Core.List.{List, [], _∷_, append-nil}
 use Prim.Native.Nat.{ℕ, min, _+_, _*_, _/_, _%_, _^_, _≤_, _<_}
 use native.Mathlib.Omega.{arith}
 use borrow.Author.Needs.{needs}
@@ -11,15 +11,12 @@ use Rattle.std.specs.Text.{asciiDigit}
 use Rattle.std.specs.Written.{decimal}
 use Rattle.std.specs.shelf.Text.{allDigits}
 use Rattle.std.specs.declared.option.Option.the-variants.{Some}
-use Rattle.std.specs.declared.result.Result.{Result}
 use Rattle.std.specs.declared.result.Result.the-variants.{Ok, Err}
 use Rattle.std.proofs.shelf.Decimals.{digits-decimal, value-decimal, decimal-some}
 use Rattle.std.proofs.shelf.Numerals.{Numerals, numerals-by-fold, tells-allDigits}
 use Rattle.std.proofs.shelf.Tests.{and-from, and-parts}
 use Rattle.std.proofs.shelf.Ways.{tells}
-use Rattle.script.specs.declared.StoreKind.{StoreKind}
 use Rattle.script.specs.declared.StoreKind.the-variants.{Flat, Log}
-use Rattle.script.specs.declared.fault.Fault.{Fault}
 use Rattle.script.specs.declared.fault.Fault.the-variants.{NotANumber}
 use Rattle.script.specs.Words.{Word, andThen, numberAfter, number, hexDigit, hexByte, hexWord, hexBytes, onto}
 use Rattle.script.specs.Line.{Filling, zeros, example, image, Asked, tag, fieldOn, fieldOff, benchRead, benchWrite, writable, dump, readContents, readWords}

@@ -2,4 +2,4 @@ pub mod Split
 pub mod Steps
 pub mod Spaces
 pub mod Back
-pub mod Blame
+pub mod Sound

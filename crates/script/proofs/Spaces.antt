@@ -3,7 +3,7 @@ use mathlib.Core.Path.{_≡_, refl, sym, ap, ap₂, _∙_}
 use mathlib.Core.Logic.{⊎-elim}
 use mathlib.Core.Bool.{Bool, true, false, cond, _&&_}
 use mathlib.Core.List.{List, [], _∷_, _++_, append-nil}
-use Prim.Native.Nat.{ℕ, suc, pred, _-_}
+use Prim.Native.Nat.{ℕ, suc}
 use native.Mathlib.Numerals.{sub-one}
 use native.Mathlib.Omega.{arith}
 use lib.Dec.{eqb, ltb}
@@ -14,7 +14,7 @@ use Rattle.script.specs.Line.{readWords}
 use Rattle.script.specs.Written.{spaced, Spaces-change-nothing}
 use Rattle.script.proofs.Split.{parts-by, parts-cut}
 
--- a carriage return at the end of the line c ∷ l, whose last byte stands at n
+-- the line l, whose last byte stands at n, without a carriage return there
 abbrev cut : ℕ → List ℕ → List ℕ
 cut n l = cond (eqb (getD l n 0) 13) (take n l) l
 

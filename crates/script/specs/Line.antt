@@ -1,5 +1,5 @@
 -- What a line asks for. Each definition reads the words from the left, so the first thing wrong is the fault.
-use mathlib.Core.Bool.{Bool, true, false, cond}
+use mathlib.Core.Bool.{cond}
 use mathlib.Core.List.{List, [], _∷_}
 use Prim.Native.Nat.{ℕ}
 use Rattle.std.specs.Of.Vec.{vec-items}

@@ -1,7 +1,7 @@
 -- The words of a line, and the numbers and bytes that words write. Lines and words are lists of bytes, in ASCII:
 -- a space is 32, a carriage return 13, `#` is 35, and the digits and letters begin at `0` 48, `A` 65 and `a` 97.
 use mathlib.Core.Path.{_≡_}
-use mathlib.Core.Bool.{Bool, true, false, cond, _&&_}
+use mathlib.Core.Bool.{Bool, cond}
 use mathlib.Core.List.{List, [], _∷_, _++_}
 use mathlib.Core.Logic.{_⊎_}
 use Prim.Native.Nat.{ℕ, _+_, _-_, _*_, min}

@@ -79,6 +79,10 @@ Fits dump = Unit {0}
 abbrev pub Written-lines-are-read : Type 0
 Written-lines-are-read = (a : Asked) → Fits a → readLine (written a) ≡ Ok (Some a)
 
+-- a request that is read has its numbers within their caps
+abbrev pub Read-requests-fit : Type 0
+Read-requests-fit = (l : List ℕ) (a : Asked) → readLine l ≡ Ok (Some a) → Fits a
+
 -- what is wrong with a line is never that memory ran out
 abbrev pub Faults-are-of-lines : Type 0
 Faults-are-of-lines = (l : List ℕ) → readLine l ≡ Err OutOfMemory → ⊥

@@ -23,20 +23,26 @@ impl Fault {
     pub fn message(&self) -> &'static str
         ensures { λ r. ⌜ now r ≡ messageOf (now (self .entry)) ⌝ }
     {
-        match *self {
-            Fault::UnknownCommand => "unknown command: use tag, field, bench, writable or dump",
-            Fault::TagStore => "tag wants 'flat' or 'log'",
-            Fault::TagContents =>
-                "after the store, tag wants nothing, 'example', or 'image' and hex digits",
-            Fault::FieldState => "field wants 'on' or 'off'",
-            Fault::BenchAction => "bench wants 'read' or 'write'",
-            Fault::NotInto => "after the block, bench read wants nothing, or 'into' and a number",
-            Fault::NumberMissing => "a number is missing at the end of the line",
-            Fault::NotANumber => "a number has only the digits 0 to 9",
-            Fault::NotHex => "a byte is two hex digits, 0 to 9, a to f or A to F",
-            Fault::OddDigits => "hex digits come in pairs: a word has an odd number of them",
-            Fault::TooMany => "the command is complete: remove the words after it",
-            Fault::OutOfMemory => "there is not enough memory for the bytes of this line",
-        }
+        message_for(*self)
+    }
+}
+
+fn message_for(fault: Fault) -> &'static str
+    ensures { λ r. ⌜ now r ≡ messageOf fault ⌝ }
+{
+    match fault {
+        Fault::UnknownCommand => "unknown command: use tag, field, bench, writable or dump",
+        Fault::TagStore => "tag wants 'flat' or 'log'",
+        Fault::TagContents =>
+            "after the store, tag wants nothing, 'example', or 'image' and hex digits",
+        Fault::FieldState => "field wants 'on' or 'off'",
+        Fault::BenchAction => "bench wants 'read' or 'write'",
+        Fault::NotInto => "after the block, bench read wants nothing, or 'into' and a number",
+        Fault::NumberMissing => "a number is missing at the end of the line",
+        Fault::NotANumber => "a number has only the digits 0 to 9",
+        Fault::NotHex => "a byte is two hex digits, 0 to 9, a to f or A to F",
+        Fault::OddDigits => "hex digits come in pairs: a word has an odd number of them",
+        Fault::TooMany => "the command is complete: remove the words after it",
+        Fault::OutOfMemory => "there is not enough memory for the bytes of this line",
     }
 }

@@ -1,8 +1,13 @@
-ghost use Rattle.script.specs.Written.{Written-lines-are-read, Faults-are-of-lines, Spaces-change-nothing};
+ghost use Rattle.script.specs.Written.{Written-lines-are-read, Read-requests-fit, Faults-are-of-lines, Spaces-change-nothing};
 
 // A request that is written and then read comes back.
 pub fn written_lines_are_read()
     ensures { λ _. ⌜ Written-lines-are-read ⌝ }
+{}
+
+// A request that is read has its numbers within their caps, so it is one that can be written.
+pub fn read_requests_fit()
+    ensures { λ _. ⌜ Read-requests-fit ⌝ }
 {}
 
 // What is wrong with a line is never that memory ran out.

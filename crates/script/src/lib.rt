@@ -29,6 +29,7 @@ mod words;
 
 pub use fault::Fault;
 pub use laws::faults_are_of_lines;
+pub use laws::read_requests_fit;
 pub use laws::spaces_change_nothing;
 pub use laws::written_lines_are_read;
 

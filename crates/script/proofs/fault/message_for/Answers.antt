@@ -1,6 +1,6 @@
 use mathlib.Core.Path.{sym, ap}
 use Rattle.script.specs.Messages.{messageOf}
-use Rattle.script.proofs.fault.Fault.message.Needs as need
+use Rattle.script.proofs.fault.message_for.Needs as need
 
 pub returns-in-UnknownCommand : need.returns-in-UnknownCommand
 returns-in-UnknownCommand c = sym (ap messageOf (c .in-UnknownCommand .is))
