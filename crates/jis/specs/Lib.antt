@@ -1,0 +1,5 @@
+pub mod Answers
+pub mod Commands
+pub mod Elements
+pub mod Faults
+pub mod Walk
