@@ -16,6 +16,7 @@ pub data Asked : Type 0 where
   bench-read : ℕ → ℕ → Asked
   bench-write : ℕ → List ℕ → Asked
   bench-writable : Asked
+  jis : List ℕ → ℕ → Asked
 
 abbrev pub asked : Call → Asked
 asked call.FieldOn = field-on
@@ -23,6 +24,7 @@ asked call.FieldOff = field-off
 asked (call.BenchRead b n) = bench-read b n
 asked (call.BenchWrite b d) = bench-write b (d .now)
 asked call.BenchWritable = bench-writable
+asked (call.Jis f n) = jis (f .now) n
 
 abbrev pub toldCall : Option Call → Option Asked
 toldCall None = None
@@ -36,4 +38,5 @@ callOf line.FieldOff = Some field-off
 callOf (line.BenchRead b n) = Some (bench-read b n)
 callOf (line.BenchWrite b d) = Some (bench-write b (vec-items d))
 callOf line.Writable = Some bench-writable
+callOf (line.Jis f n) = Some (jis (vec-items f) n)
 callOf line.Dump = None

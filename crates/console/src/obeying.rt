@@ -28,6 +28,10 @@ pub fn call_of<'a>(request: &'a Request) -> Option<Call<'a>>
             bytes: bytes.as_slice(),
         }),
         Request::Writable => Some(Call::BenchWritable),
+        Request::Jis { frame, into } => Some(Call::Jis {
+            frame: frame.as_slice(),
+            into: *into,
+        }),
         Request::Dump => None,
     }
 }

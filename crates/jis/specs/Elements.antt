@@ -2,7 +2,7 @@
 use mathlib.Core.Path.{_≡_}
 use mathlib.Core.Bool.{Bool, true, cond, _&&_, _||_}
 use mathlib.Core.List.{List, [], _∷_}
-use Prim.Native.Nat.{ℕ, zero, suc, _+_, _/_, _%_, _≤_}
+use Prim.Native.Nat.{ℕ, zero, suc, _+_, _-_, _/_, _%_, _≤_}
 use lib.Dec.{eqb, leb}
 use lib.ListN.{length, drop, getD}
 
@@ -33,8 +33,16 @@ abbrev pub numbers : ℕ → List ℕ → List ℕ
 numbers zero xs = []
 numbers (suc m) xs = getD xs 1 0 ∷ numbers m (rest xs)
 
--- a list of m elements as a command may have it
+-- a list of m elements as a command may have it: at most 15, which make the whole list, each lawful, and each with its number
 pub record Listed (m : ℕ) (xs : List ℕ) : Type 0 where
   pub few : m ≤ 15
   pub whole : width m xs ≡ length xs
   pub each : sound m xs ≡ true
+  pub named : length (numbers m xs) ≡ m
+
+-- the first of m elements taken off: its number, and a list of one fewer
+pub record TakenOff (m : ℕ) (xs : List ℕ) (number : ℕ) (ys : List ℕ) : Type 0 where
+  pub small : number ≤ 26
+  pub whole : width (m - 1) ys ≡ length ys
+  pub each : sound (m - 1) ys ≡ true
+  pub named : numbers m xs ≡ number ∷ numbers (m - 1) ys

@@ -1,10 +1,10 @@
 ghost use mathlib.Core.Path.{_≡_};
 ghost use Rattle.jis.specs.Commands.{Bounded, byCode, commandOf, lent, listsOf, opened, reqOf, told};
+use crate::bytes::byte_at;
+use crate::bytes::is_same;
 use crate::command::Command;
 use crate::fault::Access;
 use crate::fault::Fault;
-use crate::lists::byte_at;
-use crate::lists::is_same;
 use crate::lists::services_taken;
 
 // The command in a frame for the tag with this identifier, or the first rule that the frame breaks.

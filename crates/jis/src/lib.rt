@@ -1,7 +1,9 @@
 //! JIS X 6319-4: a command's frame is taken apart into its parts or a fault, and the payloads of the replies are put together.
 mod answers;
 mod blocks;
+mod bytes;
 mod command;
+mod elements;
 mod fault;
 mod frame;
 mod lists;

@@ -1,10 +1,11 @@
 ghost use mathlib.Core.Path.{_≡_};
 ghost use Prim.Native.Nat.{_*_, _≤_};
-ghost use lib.ListN.{length, getD};
-ghost use Rattle.std.specs.shelf.Text.{sameBytes};
+ghost use lib.ListN.{length};
 ghost use Rattle.jis.specs.Commands.{Bounded, alike, blocksOf, dataWidth, mostBlocks, mostServices, servicesOf, told};
-ghost use Rattle.jis.specs.Elements.{lawful, size, sound, width};
+use crate::bytes::is_same;
 use crate::command::Command;
+use crate::elements::is_sound;
+use crate::elements::list_width;
 use crate::fault::Access;
 use crate::fault::Fault;
 
@@ -83,7 +84,8 @@ fn most_blocks(access: Access, k: usize) -> usize
 {
     match access {
         Access::Read => 15,
-        Access::Write => { if k <= 8 { 12 } else { 11 } }
+        Access::Write if k <= 8 => 12,
+        Access::Write => 11,
     }
 }
 
@@ -106,62 +108,4 @@ fn is_alike(services: &[u8]) -> bool
     let (front, _) = services.split_at(services.len() - 2);
     let (_, back) = services.split_at(2);
     is_same(back, front)
-}
-
-// Whether both have the same bytes.
-pub(crate) fn is_same(a: &[u8], b: &[u8]) -> bool
-    ensures { λ r. ⌜ r ≡ sameBytes (now (a .entry)) (now (b .entry)) ⌝ }
-{
-    a == b
-}
-
-// The byte at a place, and 0 past the end.
-pub(crate) fn byte_at(bytes: &[u8], at: usize) -> u8
-    ensures { λ r. ⌜ r ≡ getD (now (bytes .entry)) at 0 ⌝ }
-{
-    if at < bytes.len() { bytes[at] } else { 0 }
-}
-
-// How many bytes the element has that begins with this one.
-pub(crate) fn element_size(d0: u8) -> usize
-    ensures value { λ r. ⌜ r ≡ size d0 ⌝ }
-    ensures bound { λ r. ⌜ r ≤ 3 ⌝ }
-{
-    if d0 >= 128 { 2 } else { 3 }
-}
-
-// How many bytes the first `m` elements have.
-fn list_width(bytes: &[u8], m: usize) -> usize
-    requires { ⌜ m ≤ 15 ⌝ }
-    ensures value { λ r. ⌜ r ≡ width m (now (bytes .entry)) ⌝ }
-    ensures bound { λ r. ⌜ r ≤ 3 * m ⌝ }
-{
-    let mut at = 0;
-    for i in 0..m {
-        at += element_size(byte_at(bytes, at));
-    }
-    at
-}
-
-// Whether a frame may have such an element. The low four bits of its first byte are ignored, and only a long one has a third byte.
-fn is_lawful(d0: u8, number: u8, d2: u8) -> bool
-    ensures { λ r. ⌜ r ≡ lawful d0 number d2 ⌝ }
-{
-    d0 / 16 % 8 == 0 && (d0 >= 128 || d2 == 0) && number <= 26
-}
-
-// Whether each of the first `m` elements is lawful.
-fn is_sound(bytes: &[u8], m: usize) -> bool
-    requires { ⌜ m ≤ 15 ⌝ }
-    ensures { λ r. ⌜ r ≡ sound m (now (bytes .entry)) ⌝ }
-{
-    let mut at = 0;
-    for i in 0..m {
-        let d0 = byte_at(bytes, at);
-        if !is_lawful(d0, byte_at(bytes, at + 1), byte_at(bytes, at + 2)) {
-            return false;
-        }
-        at += element_size(d0);
-    }
-    true
 }

@@ -1,1 +1,3 @@
 mod Payloads
+pub mod Taken
+pub mod Written

@@ -36,7 +36,7 @@ pub fn serve<S: Store>(store: &mut S, copy: &SystemCopy, frame: &[u8], reply: &m
 {
     match taken_apart(frame, copy.identity.idm()) {
         Ok(Command::Req { system_code, request, slot: _ }) => serve_req(&copy.identity, system_code, request, reply),
-        Ok(Command::Read { services: _, count, blocks }) => serve_read(store, copy, Blocks::new(blocks, count), reply),
+        Ok(Command::Read { services: _, count, blocks }) => serve_read(store, copy, Blocks::new(blocks, count), count, reply),
         Ok(Command::Write { services: _, count, blocks, data }) => serve_write(store, copy, Blocks::new(blocks, count), data, reply),
         Err(fault) => serve_fault(&copy.identity, fault, reply),
     }
@@ -65,8 +65,10 @@ fn serve_req(identity: &Identity, code: &[u8], request: u8, reply: &mut Reply)
     }
 }
 
-fn serve_read<S: Store>(store: &S, copy: &SystemCopy, list: Blocks<'_>, reply: &mut Reply)
-    requires { ⌜ held (now reply) ≡ [] ⌝ ∗ ⌜ length (numbersLeft list) ≤ 15 ⌝ }
+fn serve_read<S: Store>(store: &S, copy: &SystemCopy, list: Blocks<'_>, count: usize, reply: &mut Reply)
+    requires empty { ⌜ held (now reply) ≡ [] ⌝ }
+    requires all { ⌜ length (numbersLeft list) ≡ count ⌝ }
+    requires few { ⌜ count ≤ 15 ⌝ }
     ensures said { λ _. ⌜ held (now (reply .exit)) ≡ readFor (now (copy .entry) .identity .bytes) (now (copy .entry) .protection .bytes) (blocks (now (store .entry))) (numbersLeft (list .entry)) ⌝ }
     ensures room { λ _. ⌜ length (held (now (reply .exit))) ≤ 252 ⌝ }
 {
@@ -75,8 +77,8 @@ fn serve_read<S: Store>(store: &S, copy: &SystemCopy, list: Blocks<'_>, reply: &
         return;
     }
     write_flags(reply, 0x07, copy.identity.idm(), Status::Normal);
-    let count = [list.len() as u8];
-    reply.push(&count);
+    let counted = [count as u8];
+    reply.push(&counted);
     push_blocks(store, list, reply);
 }
 

@@ -10,6 +10,8 @@ pub enum Refusal {
     NotBlockSized,
     // an image is not 512 bytes long
     NotImageSized,
+    // a frame comes with a reply buffer of less than 256 bytes
+    ReplyBufferShort,
 }
 
 impl Refusal {
@@ -21,6 +23,7 @@ impl Refusal {
             Refusal::NoSuchBlock => 1,
             Refusal::NotBlockSized => 2,
             Refusal::NotImageSized => 3,
+            Refusal::ReplyBufferShort => 4,
         }
     }
 }

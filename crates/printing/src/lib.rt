@@ -41,6 +41,18 @@ fn show_writable<W: Write>(out: &mut W, writable: Writable) -> io::Result<()> {
     }
 }
 
+fn show_framed<W: Write>(out: &mut W, result: Result<Option<usize>, Refusal>, buffer: &[u8]) -> io::Result<()> {
+    match result {
+        Ok(Some(length)) => {
+            write!(out, "reply ")?;
+            show_hex(out, &buffer[0..length.min(buffer.len())])?;
+            writeln!(out)
+        }
+        Ok(None) => writeln!(out, "silence"),
+        Err(refusal) => show_refusal(out, refusal),
+    }
+}
+
 // The answer of one call, a line.
 pub fn show<W: Write>(out: &mut W, answer: &Answer) -> io::Result<()> {
     match answer {
@@ -48,6 +60,7 @@ pub fn show<W: Write>(out: &mut W, answer: &Answer) -> io::Result<()> {
         Answer::Read { result, buffer } => show_read(out, *result, buffer.as_slice()),
         Answer::Written { result } => show_done(out, *result),
         Answer::Figure { writable } => show_writable(out, *writable),
+        Answer::Framed { result, buffer } => show_framed(out, *result, buffer.as_slice()),
     }
 }
 

@@ -5,7 +5,7 @@ use lib.ListN.{length}
 use Rattle.checksum.specs.Checksum.{jisChecksum}
 
 -- bytes, and behind them their checksum of JIS X 6319-4
-abbrev pub jisSealed : List ℕ → List ℕ
+unfoldable pub jisSealed : List ℕ → List ℕ
 jisSealed xs = xs ++ jisChecksum xs
 
 -- a JIS frame is LEN, the payload and two checksum bytes: LEN is the payload's length plus 1, and the checksum runs over LEN and payload

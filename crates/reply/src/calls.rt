@@ -1,8 +1,10 @@
 ghost use mathlib.Core.Path.{_≡_};
 ghost use mathlib.Core.List.{[], _++_};
 ghost use Prim.Native.Nat.{_+_, _≤_};
-ghost use lib.ListN.{length};
-ghost use Rattle.reply.specs.Frames.{jisFrame};
+ghost use lib.Dec.{eqb};
+ghost use lib.ListN.{length, take};
+ghost use Rattle.checksum.specs.Checksum.{jisChecksum};
+ghost use Rattle.reply.specs.Frames.{jisFrame, jisSealed};
 ghost use Rattle.reply.specs.Held.{held, over, sent};
 use crate::writer::Reply;
 
@@ -17,15 +19,22 @@ impl Reply {
         }
     }
 
+    // Whether it is silence so far.
+    pub fn is_empty(&self) -> bool
+        ensures { λ r. ⌜ r ≡ eqb (length (held (now (self .entry)))) 0 ⌝ }
+    {
+        self.len == 0
+    }
+
     // Adds bytes behind those that are held.
     pub fn push(&mut self, bytes: &[u8])
         requires { ⌜ length (held (now self)) + length (now bytes) ≤ 256 ⌝ }
         ensures items { λ _. ⌜ held (now (self .exit)) ≡ held (now (self .entry)) ++ now (bytes .entry) ⌝ }
         ensures len { λ _. ⌜ length (held (now (self .exit))) ≡ length (held (now (self .entry))) + length (now (bytes .entry)) ⌝ }
     {
-        let end = self.len + bytes.len();
-        self.bytes[self.len..end].copy_from_slice(bytes);
-        self.len = end;
+        let at = self.len;
+        put(&mut self.bytes, at, bytes);
+        self.len = at + bytes.len();
     }
 
     // Makes the payload that is held a frame of JIS X 6319-4. LEN goes in front, so the frame is built anew.
@@ -35,12 +44,12 @@ impl Reply {
         ensures items { λ _. ⌜ held (now (self .exit)) ≡ jisFrame (held (now (self .entry))) ⌝ }
         ensures len { λ _. ⌜ length (held (now (self .exit))) ≡ length (held (now (self .entry))) + 3 ⌝ }
     {
+        let payload = self.as_bytes();
         let mut frame = Reply::new();
-        let head = [self.len as u8 + 1];
-        frame.push(&head);
-        frame.push(&self.bytes[0..self.len]);
-        let checksum = checksum::jis(&frame.bytes[0..frame.len]);
-        frame.push(&checksum);
+        let len = [payload.len() as u8 + 1];
+        frame.push(&len);
+        frame.push(payload);
+        frame.push_checksum();
         *self = frame;
     }
 
@@ -53,4 +62,36 @@ impl Reply {
         buffer[0..self.len].copy_from_slice(&self.bytes[0..self.len]);
         if self.len == 0 { None } else { Some(self.len) }
     }
+
+    // Adds the checksum of JIS X 6319-4 over all that is held.
+    fn push_checksum(&mut self)
+        requires { ⌜ length (held (now self)) ≤ 254 ⌝ }
+        ensures items { λ _. ⌜ held (now (self .exit)) ≡ jisSealed (held (now (self .entry))) ⌝ }
+        ensures len { λ _. ⌜ length (held (now (self .exit))) ≡ length (held (now (self .entry))) + 2 ⌝ }
+    {
+        let checksum = self.jis_checksum();
+        self.push(&checksum);
+    }
+
+    fn jis_checksum(&self) -> [u8; 2]
+        ensures { λ r. ⌜ r ≡ jisChecksum (held (now (self .entry))) ⌝ }
+    {
+        checksum::jis(self.as_bytes())
+    }
+
+    fn as_bytes(&self) -> &[u8]
+        ensures items { λ r. ⌜ now r ≡ held (now (self .entry)) ⌝ }
+        ensures len { λ r. ⌜ length (now r) ≡ length (held (now (self .entry))) ⌝ }
+    {
+        &self.bytes[0..self.len]
+    }
+}
+
+// Writes bytes at a place of the array. Those ahead of it stay.
+fn put(array: &mut [u8; 256], at: usize, bytes: &[u8])
+    requires { ⌜ at + length (now bytes) ≤ 256 ⌝ }
+    ensures items { λ _. ⌜ take (at + length (now (bytes .entry))) (now (array .exit)) ≡ take at (now (array .entry)) ++ now (bytes .entry) ⌝ }
+    ensures len { λ _. ⌜ length (take (at + length (now (bytes .entry))) (now (array .exit))) ≡ length (take at (now (array .entry))) + length (now (bytes .entry)) ⌝ }
+{
+    array[at..at + bytes.len()].copy_from_slice(bytes);
 }

@@ -10,6 +10,8 @@ pub enum Call<'a> {
     BenchRead { block: u16, into: usize },
     BenchWrite { block: u16, bytes: &'a [u8] },
     BenchWritable,
+    // with a reply buffer of that many zeros
+    Jis { frame: &'a [u8], into: usize },
 }
 
 // What a call answers.
@@ -27,5 +29,10 @@ pub enum Answer {
     },
     Figure {
         writable: Writable,
+    },
+    // with the reply buffer as the call left it
+    Framed {
+        result: Result<Option<usize>, Refusal>,
+        buffer: Vec<u8>,
     },
 }

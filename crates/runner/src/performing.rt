@@ -3,7 +3,7 @@ ghost use Rattle.std.specs.Of.Vec.{vec-items};
 ghost use Rattle.std.specs.Results.{Cases};
 ghost use Rattle.std.specs.Vec.{made};
 ghost use Rattle.tag.specs.View.{Made};
-ghost use Rattle.runner.specs.declared.call.Call.the-variants.{FieldOn, FieldOff, BenchRead, BenchWrite, BenchWritable};
+ghost use Rattle.runner.specs.declared.call.Call.the-variants.{FieldOn, FieldOff, BenchRead, BenchWrite, BenchWritable, Jis};
 ghost use Rattle.runner.specs.Told.{Performed, Performed-all};
 use crate::call::Answer;
 use crate::call::Call;
@@ -26,6 +26,7 @@ pub fn perform<S: Store>(
         Call::BenchRead { block, into } => bench_read(heap, tag, *block, *into),
         Call::BenchWrite { block, bytes } => Ok(bench_write(tag, *block, bytes)),
         Call::BenchWritable => Ok(bench_writable(tag)),
+        Call::Jis { frame, into } => jis_frame(heap, tag, frame, *into),
     }
 }
 
@@ -70,6 +71,14 @@ fn bench_writable<S: Store>(tag: &Tag<S>) -> Answer
     Answer::Figure {
         writable: tag.bench_writable(),
     }
+}
+
+fn jis_frame<S: Store>(heap: Global, tag: &mut Tag<S>, frame: &[u8], into: usize) -> Result<Answer, AllocError>
+    ensures { λ r. ⌜ Cases r (λ a. Performed blocks (now (tag .entry)) (Jis (frame .entry) into) a (now (tag .exit))) (λ _. now (tag .exit) ≡ now (tag .entry)) ⌝ }
+{
+    let mut buffer = vec![in heap; 0u8; into]?;
+    let result = tag.jis_frame(frame, buffer.as_mut_slice());
+    Ok(Answer::Framed { result, buffer })
 }
 
 // Makes a tag over the store and performs the calls one after the other.

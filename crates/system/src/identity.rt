@@ -19,21 +19,24 @@ impl Identity {
 
     // SC, the system code.
     pub fn system_code(&self) -> &[u8]
-        ensures { λ r. ⌜ now r ≡ systemCode (now (self .entry) .bytes) ⌝ }
+        ensures value { λ r. ⌜ now r ≡ systemCode (now (self .entry) .bytes) ⌝ }
+        ensures len { λ r. ⌜ length (now r) ≡ 2 ⌝ }
     {
         &self.bytes[0..2]
     }
 
     // IDM, the manufacture identifier.
     pub fn idm(&self) -> &[u8]
-        ensures { λ r. ⌜ now r ≡ idm (now (self .entry) .bytes) ⌝ }
+        ensures value { λ r. ⌜ now r ≡ idm (now (self .entry) .bytes) ⌝ }
+        ensures len { λ r. ⌜ length (now r) ≡ 8 ⌝ }
     {
         &self.bytes[2..10]
     }
 
     // PMM, the manufacture parameter.
     pub fn pmm(&self) -> &[u8]
-        ensures { λ r. ⌜ now r ≡ pmm (now (self .entry) .bytes) ⌝ }
+        ensures value { λ r. ⌜ now r ≡ pmm (now (self .entry) .bytes) ⌝ }
+        ensures len { λ r. ⌜ length (now r) ≡ 2 ⌝ }
     {
         &self.bytes[10..12]
     }

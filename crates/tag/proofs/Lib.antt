@@ -1,2 +1,4 @@
 mod Placing
+mod Listing
+mod Replies
 pub mod Law

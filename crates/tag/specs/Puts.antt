@@ -1,8 +1,9 @@
 -- Bytes put at places of the memory, in order, the later one counting. Assumes nothing.
 use mathlib.Core.Path.{_≡_}
-use mathlib.Core.List.{List, [], _∷_}
+use mathlib.Core.List.{List, [], _∷_, _++_}
+use lib.ListN.{take, drop}
 use Prim.Native.Nat.{ℕ, suc}
-use Rattle.memory.specs.Memory.{Memory, withByte}
+use Rattle.memory.specs.Memory.{Memory, blockSize, withByte}
 
 -- a byte put at an offset of a block
 pub record Put : Type 0 where
@@ -14,6 +15,11 @@ pub record Put : Type 0 where
 abbrev pub inBlock : ℕ → ℕ → List ℕ → List Put
 inBlock b o [] = []
 inBlock b o (v ∷ vs) = record { block = b; offset = o; value = v } ∷ inBlock b (suc o) vs
+
+-- bytes put into listed blocks, in order, 16 for each
+abbrev pub inBlocks : List ℕ → List ℕ → List Put
+inBlocks [] d = []
+inBlocks (b ∷ bs) d = inBlock b 0 (take blockSize d) ++ inBlocks bs (drop blockSize d)
 
 -- the memory after them
 abbrev pub puts : Memory → List Put → Memory

@@ -1,6 +1,6 @@
 -- What each call does to a tag and what it answers: the one relation that every public call ensures. Assumes nothing.
 use mathlib.Core.Path.{_≡_}
-use mathlib.Core.List.{List}
+use mathlib.Core.List.{List, [], _∷_}
 use Prim.Native.Nat.{ℕ, _≤_, _<_}
 use lib.ListN.{length}
 use Rattle.std.specs.declared.option.Option.{Option}
@@ -9,12 +9,15 @@ use Rattle.std.specs.declared.result.Result.{Result}
 use Rattle.std.specs.declared.result.Result.the-variants.{Ok, Err}
 use Rattle.memory.specs.Memory.{Memory, blockAt, blockCount, blockSize, withBlock}
 use Rattle.memory.specs.declared.refusal.Refusal.{Refusal}
-use Rattle.memory.specs.declared.refusal.Refusal.the-variants.{NoSuchBlock, NotBlockSized, NotImageSized}
+use Rattle.memory.specs.declared.refusal.Refusal.the-variants.{NoSuchBlock, NotBlockSized, NotImageSized, ReplyBufferShort}
 use Rattle.system.specs.declared.figure.Writable.{Writable}
 use Rattle.system.specs.Identity.{identityBlock}
 use Rattle.system.specs.Protection.{protectionBlock, Figure}
+use Rattle.reply.specs.Frames.{jisFrame}
+use Rattle.reply.specs.Held.{over, sent}
+use Rattle.jis_service.specs.Service.{replyPayload, memoryAfter}
 use Rattle.tag.specs.Model.{Copy, Model}
-use Rattle.tag.specs.History.{Event, field-on, field-off, bench-read, bench-write, bench-writable}
+use Rattle.tag.specs.History.{Event, field-on, field-off, bench-read, bench-write, bench-writable, jis}
 
 -- a tag as it is made: the field off
 abbrev pub fresh : Memory → Model
@@ -43,6 +46,7 @@ abbrev pub BenchRefused : ℕ → ℕ → Refusal → Type 0
 BenchRefused b n NoSuchBlock = blockCount ≤ b
 BenchRefused b n NotBlockSized = (b < blockCount) × (n ≡ blockSize → ⊥)
 BenchRefused b n NotImageSized = ⊥
+BenchRefused b n ReplyBufferShort = ⊥
 
 -- a refused read leaves the buffer
 abbrev pub BenchRead : Model → ℕ → List ℕ → Result (Unit {0}) Refusal → List ℕ → Model → Type 0
@@ -62,9 +66,38 @@ abbrev pub protectionOf : Option Copy → Option (List ℕ)
 protectionOf None = None
 protectionOf (Some c) = Some (c .protection)
 
+-- a JIS frame: the payload of the reply, and the memory after. With the field off the tag is silent and changes nothing.
+abbrev pub jisPayload : Option Copy → Memory → List ℕ → List ℕ
+jisPayload None m f = []
+jisPayload (Some c) m f = replyPayload (c .identity) (c .protection) m f
+
+abbrev pub jisMemory : Option Copy → Memory → List ℕ → Memory
+jisMemory None m f = m
+jisMemory (Some c) m f = memoryAfter (c .identity) (c .protection) m f
+
+-- the reply is the payload's frame, and no reply where there is none
+abbrev pub jisReply : List ℕ → List ℕ
+jisReply [] = []
+jisReply (x ∷ xs) = jisFrame (x ∷ xs)
+
+-- how many bytes a reply buffer must have
+abbrev pub replyRoom : ℕ
+replyRoom = 256
+
+-- a reply goes to the front of the buffer, and the bytes past it stay; a frame call is refused for want of room alone
+abbrev pub Replied : List ℕ → List ℕ → Result (Option ℕ) Refusal → List ℕ → Type 0
+Replied reply before (Ok n) after = (replyRoom ≤ length before) × (n ≡ sent reply) × (after ≡ over reply before)
+Replied reply before (Err e) after = (length before < replyRoom) × (e ≡ ReplyBufferShort) × (after ≡ before)
+
+abbrev pub served : Result (Option ℕ) Refusal → Model → Model → Model
+served (Ok n) s t = t
+served (Err e) s t = s
+
 abbrev pub Step : Model → Event → Model → Type 0
 Step s field-on t = t ≡ raised s
 Step s field-off t = t ≡ dropped s
 Step s (bench-read b before r after) t = BenchRead s b before r after t
 Step s (bench-write b bytes r) t = BenchWritten s b bytes r t
 Step s (bench-writable w) t = Shown (protectionOf (s .copy)) w × (t ≡ s)
+Step s (jis f before r after) t =
+    Replied (jisReply (jisPayload (s .copy) (s .memory) f)) before r after × (t ≡ served r s (withMemory s (jisMemory (s .copy) (s .memory) f)))

@@ -1,5 +1,6 @@
-//! The tag over any store of blocks: its making, its field, the bench, and the law that every sequence of its calls keeps.
+//! The tag over any store of blocks: its making, its field, the bench, frames, and the law that every sequence of its calls keeps.
 mod bench;
+mod frames;
 mod laws;
 mod power;
 mod state;

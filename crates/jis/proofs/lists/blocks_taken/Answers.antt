@@ -8,7 +8,7 @@ use Rattle.std.specs.declared.result.Result.the-variants.{Ok}
 use Rattle.jis.specs.declared.fault.Access.the-variants as access
 use Rattle.jis.specs.Elements.{sound, Listed}
 use Rattle.jis.specs.Commands.{dataWidth, asked, blocksOf}
-use Rattle.jis.proofs.Elements.{listed-front}
+use Rattle.jis.proofs.Listing.{listed-front}
 use Rattle.jis.proofs.Rules.{blocks-passed}
 use Rattle.jis.proofs.lists.blocks_taken.Needs as need
 use Rattle.jis.proofs.lists.blocks_taken.Needs.{Else-not-is-sound}

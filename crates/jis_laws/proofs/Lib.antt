@@ -1,0 +1,4 @@
+pub mod Answered
+pub mod Elements
+pub mod Opening
+pub mod Taken

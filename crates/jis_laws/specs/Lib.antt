@@ -1,0 +1,3 @@
+pub mod Laws
+pub mod Replied
+pub mod Sent
