@@ -1,7 +1,8 @@
 -- The worked cases, one list. Assumes nothing.
 use mathlib.Core.Path.{_≡_}
-use mathlib.Core.List.{List, [], _∷_}
+use mathlib.Core.List.{List, [], _∷_, _++_}
 use Prim.Native.Nat.{ℕ}
+use lib.ListN.{take, drop, replicate}
 use Rattle.std.specs.declared.option.Option.{Option}
 use Rattle.std.specs.declared.option.Option.the-variants.{Some, None}
 use Rattle.checksum.specs.Checksum.{jisChecksum, crcB}
@@ -9,9 +10,10 @@ use Rattle.memory.specs.Memory.{blocksOf}
 use Rattle.memory.specs.declared.number.BlockNumber.{BlockNumber}
 use Rattle.system.specs.Example.{exampleImage}
 use Rattle.system.specs.declared.figure.Writable.{Writable}
+use Rattle.reply.specs.Frames.{jisFrame}
 use Rattle.tag.specs.Model.{Model}
 use Rattle.tag.specs.History.{bench-writable}
-use Rattle.tag.specs.Steps.{Step, fresh, raised}
+use Rattle.tag.specs.Steps.{Step, fresh, raised, jisPayload, jisReply}
 
 -- there is a block, and it is block b
 abbrev pub IsBlock : ℕ → Option BlockNumber → Type 0
@@ -22,6 +24,21 @@ IsBlock b (Some x) = x .index ≡ b
 abbrev pub exampleTag : Model
 exampleTag = raised (fresh (blocksOf exampleImage))
 
+-- what the example tag replies to the JIS frame of a payload
+abbrev pub replied : List ℕ → List ℕ
+replied payload = jisReply (jisPayload (exampleTag .copy) (exampleTag .memory) (jisFrame payload))
+
+-- the payload of a READ of the example tag, of one block element with one service, and the flags of the reply
+abbrev pub readOf : List ℕ → List ℕ
+readOf element = 0x06 ∷ 1 ∷ 2 ∷ 3 ∷ 4 ∷ 5 ∷ 6 ∷ 7 ∷ 8 ∷ 1 ∷ 0x0B ∷ 0x00 ∷ 1 ∷ element
+
+-- a WRITE of 16 bytes likewise
+abbrev pub writeOf : List ℕ → List ℕ
+writeOf element = 0x08 ∷ 1 ∷ 2 ∷ 3 ∷ 4 ∷ 5 ∷ 6 ∷ 7 ∷ 8 ∷ 1 ∷ 0x09 ∷ 0x00 ∷ 1 ∷ (element ++ replicate 16 0x5A)
+
+abbrev pub flagsIn : List ℕ → List ℕ
+flagsIn reply = take 2 (drop 10 reply)
+
 pub record WorkedCases : Type 0 where
   -- checksums
   pub polling : jisChecksum (0x06 ∷ 0x00 ∷ 0xff ∷ 0xff ∷ 0x00 ∷ 0x00 ∷ []) ≡ 0x09 ∷ 0x21 ∷ []
@@ -30,3 +47,14 @@ pub record WorkedCases : Type 0 where
   pub attrib-answer : crcB (0x10 ∷ []) ≡ 0xf9 ∷ 0xe0 ∷ []
   -- of the example tag 24 blocks are writable, the lowest is 0
   pub writable : (w : Writable) (t : Model) → Step exampleTag (bench-writable w) t → (w .count ≡ 24) × IsBlock 0 (w .lowest)
+  -- a REQ for the system codes AA FF is not for it
+  pub req-aa : replied (0x00 ∷ 0xAA ∷ 0xFF ∷ 0x00 ∷ 0x00 ∷ []) ≡ []
+  -- a READ of block 3, which has both bits, and of block 26 is normal; of block 4, which is closed, not
+  pub read-3 : flagsIn (replied (readOf (0x80 ∷ 0x03 ∷ []))) ≡ 0x00 ∷ 0x00 ∷ []
+  pub read-26 : flagsIn (replied (readOf (0x80 ∷ 0x1A ∷ []))) ≡ 0x00 ∷ 0x00 ∷ []
+  pub read-4 : flagsIn (replied (readOf (0x80 ∷ 0x04 ∷ []))) ≡ 0xFF ∷ 0x60 ∷ []
+  -- there is no user block 27, and D2 of a long element is 0
+  pub read-27 : flagsIn (replied (readOf (0x80 ∷ 0x1B ∷ []))) ≡ 0xFF ∷ 0xA5 ∷ []
+  pub read-long : flagsIn (replied (readOf (0x00 ∷ 0x05 ∷ 0x02 ∷ []))) ≡ 0xFF ∷ 0xA5 ∷ []
+  -- a WRITE of block 3 is refused
+  pub write-3 : flagsIn (replied (writeOf (0x80 ∷ 0x03 ∷ []))) ≡ 0xFF ∷ 0x60 ∷ []
