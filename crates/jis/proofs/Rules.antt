@@ -8,12 +8,12 @@ use lib.ListN.{length, take, drop}
 use Rattle.std.proofs.shelf.Tests.{eq-eqb}
 use Rattle.std.proofs.shelf.Ways.{tells}
 use Rattle.std.specs.declared.result.Result.{Result}
-use Rattle.std.specs.declared.result.Result.the-variants.{Ok, Err}
+use Rattle.std.specs.declared.result.Result.the-variants.{Ok}
 use Rattle.jis.specs.declared.fault.Access.{Access}
 use Rattle.jis.specs.declared.fault.Fault.{Fault}
 use Rattle.jis.specs.declared.fault.Fault.the-variants.{ListEnd, BadElement}
 use Rattle.jis.specs.Elements.{width, sound}
-use Rattle.jis.specs.Commands.{Asked, demand, upTo, dataWidth, asked, blocksOf}
+use Rattle.jis.specs.Commands.{demand, upTo, dataWidth, asked, blocksOf}
 
 pub passed : {X : Type 0} (b : Bool) (e : Fault) (r : Result X Fault) → b ≡ true → demand b e r ≡ r
 passed b e r h = ap (λ t. demand t e r) h

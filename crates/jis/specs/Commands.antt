@@ -57,6 +57,7 @@ dataWidth access.Write m = 16 * m
 abbrev pub alike : List ℕ → Bool
 alike xs = sameBytes (drop 2 xs) (take (length xs - 2) xs)
 
+-- what a READ or a WRITE asks for: only a WRITE brings data
 abbrev pub asked : Access → List ℕ → ℕ → List ℕ → List ℕ → Asked
 asked access.Read services m blocks d = read services m blocks
 asked access.Write services m blocks d = write services m blocks d
@@ -93,6 +94,7 @@ listsOf idm a p =
 abbrev pub reqOf : List ℕ → Result Asked Fault
 reqOf p = demand (eqb (length p) 5) Shape (Ok (req (take 2 (drop 1 p)) (getD p 3 0) (getD p 4 0)))
 
+-- the first byte of the payload is the command's code: 00 REQ, 06 READ, 08 WRITE
 abbrev pub byCode : List ℕ → List ℕ → Result Asked Fault
 byCode idm p =
     cond (eqb (getD p 0 0) 0x00) (reqOf p)
@@ -119,6 +121,7 @@ told (Ok (Read services count blocks)) = Ok (read (services .now) count (blocks 
 told (Ok (Write services count blocks d)) = Ok (write (services .now) count (blocks .now) (d .now))
 told (Err e) = Err e
 
+-- likewise for a payload
 abbrev pub lent : Result (RefT (List ℕ)) Fault → Result (List ℕ) Fault
 lent (Ok p) = Ok (p .now)
 lent (Err e) = Err e

@@ -48,8 +48,8 @@ fn write_extra(reply: &mut Reply, request: u8, system_code: &[u8])
     match request {
         0x01 => reply.push(system_code),
         0x02 => {
-            let rate = [0x00, 0x83];
-            reply.push(&rate);
+            let extra = [0x00, 0x83];
+            reply.push(&extra);
         }
         _ => {}
     }

@@ -1,7 +1,7 @@
 ghost use mathlib.Core.Path.{_≡_};
-ghost use lib.ListN.{length};
 ghost use mathlib.Core.Bool.{true};
 ghost use Prim.Native.Nat.{_≤_};
+ghost use lib.ListN.{length};
 ghost use Rattle.jis.specs.Elements.{Listed, TakenOff, numbers, sound, width};
 ghost use Rattle.jis.specs.Walk.{Next, numbersLeft};
 use crate::blocks::Blocks;

@@ -1,23 +1,21 @@
 -- Frames of replies taken apart again. Assumes nothing.
 use mathlib.Core.Path.{_≡_, refl, sym, ap, ap₂, _∙_}
 use mathlib.Core.List.{List, [], _∷_, _++_}
-use Prim.Native.Nat.{ℕ, zero, suc, _+_, _≤_}
+use Prim.Native.Nat.{ℕ, _+_}
 use native.Mathlib.Omega.{arith}
 use lib.ListN.{length, take, drop, getD}
 use Rattle.std.specs.Joined.{joined}
-use Rattle.std.specs.declared.result.Result.{Result}
 use Rattle.std.specs.declared.result.Result.the-variants.{Ok}
 use Rattle.std.proofs.shelf.Lists.{append-assoc, drop-drop, drop-at, getD-drop, take-at}
 use Rattle.memory.specs.Memory.{cut}
 use Rattle.reply.specs.Frames.{jisFrame}
 use Rattle.jis.specs.declared.fault.Access.{Access}
 use Rattle.jis.specs.declared.fault.Access.the-variants.{Read, Write}
-use Rattle.jis.specs.declared.fault.Fault.{Fault}
 use Rattle.jis.specs.declared.fault.Status.{Status}
 use Rattle.jis.specs.declared.fault.Status.the-variants.{Normal, ServiceCount, ServicesDiffer, BlockCount, BadElement, Protected}
 use Rattle.jis.specs.Answers.{extraOf, flagsPayload, readPayload, reqPayload}
 use Rattle.jis.specs.Faults.{answerCode, flagsOf}
-use Rattle.jis_laws.specs.Replied.{Answer, polled, done, statusOf, listed, polledBy, answerOf, replyOf, Sixteens}
+use Rattle.jis_laws.specs.Replied.{polled, done, statusOf, listed, answerOf, replyOf, Sixteens}
 use Rattle.jis_laws.proofs.Opening.{through}
 
 -- what stands at a place behind the code and the identifier

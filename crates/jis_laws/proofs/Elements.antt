@@ -1,10 +1,10 @@
 -- Services and elements put together, and what a tag finds in their bytes. Assumes nothing.
-use mathlib.Core.Path.{_≡_, refl, sym, ap, ap₂, _∙_}
-use mathlib.Core.Bool.{Bool, true, _&&_, _||_}
+use mathlib.Core.Path.{_≡_, refl, ap, _∙_}
+use mathlib.Core.Bool.{true}
 use mathlib.Core.List.{List, [], _∷_, _++_, map}
 use Prim.Native.Nat.{ℕ, zero, suc, _+_, _-_, _*_, _/_, _%_, _≤_, _<_}
 use native.Mathlib.Omega.{arith}
-use lib.Dec.{eqb, leb}
+use lib.Dec.{leb}
 use lib.ListN.{length, take, drop, getD}
 use Rattle.std.specs.shelf.Text.{sameBytes}
 use Rattle.std.proofs.shelf.Tests.{and-from, or-left, or-right, le-leb, lt-leb, eq-eqb, cond-true, cond-false}

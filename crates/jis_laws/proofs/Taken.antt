@@ -1,9 +1,9 @@
 -- Frames of commands taken apart again. Assumes nothing.
 use mathlib.Core.Path.{_≡_, refl, sym, ap, ap₂, _∙_}
-use mathlib.Core.Bool.{Bool, true, false, cond}
+use mathlib.Core.Bool.{true, false}
 use mathlib.Core.Logic.{inl, inr}
 use mathlib.Core.List.{List, [], _∷_, _++_}
-use Prim.Native.Nat.{ℕ, zero, suc, _+_, _-_, _*_, _≤_, _<_}
+use Prim.Native.Nat.{ℕ, _+_, _*_, _≤_, _<_}
 use native.Mathlib.Omega.{arith}
 use lib.Dec.{ltb, leb}
 use lib.ListN.{length, take, drop, getD, length-append}
@@ -18,7 +18,7 @@ use Rattle.jis.specs.declared.fault.Access.the-variants as access
 use Rattle.jis.specs.declared.fault.Fault.{Fault}
 use Rattle.jis.specs.declared.fault.Fault.the-variants.{Shape, ForeignIdentifier, ServiceCount, Truncated, ServicesDiffer, BlockCount}
 use Rattle.jis.specs.Commands as taken
-use Rattle.jis.specs.Commands.{Asked, demand, upTo, mostServices, mostBlocks, dataWidth, alike, blocksOf, servicesOf, listsOf, byCode, commandOf}
+use Rattle.jis.specs.Commands.{Asked, demand, upTo, mostServices, mostBlocks, dataWidth, alike, blocksOf, listsOf, byCode, commandOf}
 use Rattle.jis.specs.Elements.{sound}
 use Rattle.jis.proofs.Rules.{passed, up-to, blocks-passed}
 use Rattle.jis_laws.specs.Sent.{Element, listBytes, EachFits, Within, services, Command, req, read, write, readFrame, writeFrame, frameOf, lists, InRange, For, asked}

@@ -38,6 +38,7 @@ listed a p = done a (take 8 (drop 1 p)) (statusOf (getD p 10 0)) (cut (getD p 11
 abbrev pub polledBy : List ℕ → Answer
 polledBy p = polled (take 8 (drop 1 p)) (take 2 (drop 14 p)) (drop 17 p)
 
+-- the first byte tells what is answered: 01 a REQ, 07 a READ, 09 a WRITE
 abbrev pub answerOf : List ℕ → Result Answer Fault
 answerOf p =
     cond (eqb (getD p 0 0) 0x01) (Ok (polledBy p))

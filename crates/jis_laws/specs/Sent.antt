@@ -18,18 +18,21 @@ abbrev pub elementBytes : Element → List ℕ
 elementBytes (short low number) = (128 + low) ∷ number ∷ []
 elementBytes (long low number) = low ∷ number ∷ 0x00 ∷ []
 
+-- a list is its elements, one behind the other
 abbrev pub listBytes : List Element → List ℕ
 listBytes es = joined elementBytes es
 
+-- the block that an element names
 abbrev pub numberOf : Element → ℕ
 numberOf (short low number) = number
 numberOf (long low number) = number
 
--- four bits are below 16, and a block's number is at most 26
+-- an element fits where its four bits are below 16 and its number is at most 26
 abbrev pub Fits : Element → Type 0
 Fits (short low number) = (low < 16) × (number ≤ 26)
 Fits (long low number) = (low < 16) × (number ≤ 26)
 
+-- each element of a list fits
 abbrev pub EachFits : List Element → Type 0
 EachFits [] = Unit {0}
 EachFits (e ∷ es) = Fits e × EachFits es
@@ -61,6 +64,7 @@ readFrame idm k a b es = jisFrame (0x06 ∷ lists idm k a b es)
 abbrev pub writeFrame : List ℕ → ℕ → ℕ → ℕ → List Element → List ℕ → List ℕ
 writeFrame idm k a b es d = jisFrame (0x08 ∷ (lists idm k a b es ++ d))
 
+-- the frame of each command
 abbrev pub frameOf : Command → List ℕ
 frameOf (req a b request slot) = reqFrame a b request slot
 frameOf (read idm k a b es) = readFrame idm k a b es

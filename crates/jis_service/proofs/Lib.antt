@@ -1,3 +1,4 @@
 mod Payloads
+pub mod Silence
 pub mod Taken
 pub mod Written

@@ -71,12 +71,15 @@ pub data Way (id p : List ℕ) (x : Asked) : Type 0 where
 
 way : (id p : List ℕ) (x : Asked) → byCode id p ≡ Ok x → Way id p x
 way id p x h = elim (chosen (eqb (getD p 0 0) 0x00) (reqOf p) _ x h) [
-    inl a ↦ polls (a .0) (a .1)
+  | inl a ↦ polls (a .0) (a .1)
   | inr a ↦ elim (chosen (eqb (getD p 0 0) 0x06) (listsOf id access.Read p) _ x (a .1)) [
-        inl b ↦ reads (a .0) (b .0) (b .1)
-      | inr b ↦ elim (chosen (eqb (getD p 0 0) 0x08) (listsOf id access.Write p) _ x (b .1)) [
-            inl c ↦ writes (a .0) (b .0) (c .0) (c .1)
-          | inr c ↦ let z : _≡_ {A = ℕ} 0 1 = never x (c .1) in absurd (omega arith) ] ] ]
+    | inl b ↦ reads (a .0) (b .0) (b .1)
+    | inr b ↦ elim (chosen (eqb (getD p 0 0) 0x08) (listsOf id access.Write p) _ x (b .1)) [
+      | inl c ↦ writes (a .0) (b .0) (c .0) (c .1)
+      | inr c ↦ let z : _≡_ {A = ℕ} 0 1 = never x (c .1) in absurd (omega arith)
+    ]
+  ]
+]
   where
     never : (x : Asked) → _≡_ {A = Result Asked Fault} (Err Code) (Ok x) → _≡_ {A = ℕ} 0 1
     never x e = cc

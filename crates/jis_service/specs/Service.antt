@@ -1,4 +1,5 @@
 -- What a tag with the field on does with a JIS frame: the payload of its reply, and its memory after. Assumes nothing.
+use mathlib.Core.Path.{_≡_}
 use mathlib.Core.Bool.{Bool, true, cond, _&&_, _||_}
 use mathlib.Core.List.{List, [], _∷_, map}
 use Prim.Native.Nat.{ℕ}
@@ -74,3 +75,7 @@ replyPayload identity protection m f = payloadFor identity protection m (command
 
 abbrev pub memoryAfter : List ℕ → List ℕ → Memory → List ℕ → Memory
 memoryAfter identity protection m f = memoryFor protection m (commandOf (idm identity) f)
+
+-- a frame that meets silence changes nothing
+abbrev pub Silence-changes-nothing : Type 0
+Silence-changes-nothing = (identity protection : List ℕ) (m : Memory) (f : List ℕ) → replyPayload identity protection m f ≡ [] → memoryAfter identity protection m f ≡ m

@@ -35,9 +35,28 @@ pub fn serve<S: Store>(store: &mut S, copy: &SystemCopy, frame: &[u8], reply: &m
     ensures room { λ _. ⌜ length (held (now (reply .exit))) ≤ 252 ⌝ }
 {
     match taken_apart(frame, copy.identity.idm()) {
-        Ok(Command::Req { system_code, request, slot: _ }) => serve_req(&copy.identity, system_code, request, reply),
-        Ok(Command::Read { services: _, count, blocks }) => serve_read(store, copy, Blocks::new(blocks, count), count, reply),
-        Ok(Command::Write { services: _, count, blocks, data }) => serve_write(store, copy, Blocks::new(blocks, count), data, reply),
+        Ok(
+            Command::Req {
+                system_code,
+                request,
+                slot: _,
+            },
+        ) => serve_req(&copy.identity, system_code, request, reply),
+        Ok(
+            Command::Read {
+                services: _,
+                count,
+                blocks,
+            },
+        ) => serve_read(store, copy, Blocks::new(blocks, count), count, reply),
+        Ok(
+            Command::Write {
+                services: _,
+                count,
+                blocks,
+                data,
+            },
+        ) => serve_write(store, copy, Blocks::new(blocks, count), data, reply),
         Err(fault) => serve_fault(&copy.identity, fault, reply),
     }
 }
@@ -61,11 +80,23 @@ fn serve_req(identity: &Identity, code: &[u8], request: u8, reply: &mut Reply)
     ensures room { λ _. ⌜ length (held (now (reply .exit))) ≤ 252 ⌝ }
 {
     if is_addressed(code, identity.system_code()) {
-        write_req_answer(reply, identity.idm(), identity.pmm(), request, identity.system_code());
+        write_req_answer(
+            reply,
+            identity.idm(),
+            identity.pmm(),
+            request,
+            identity.system_code(),
+        );
     }
 }
 
-fn serve_read<S: Store>(store: &S, copy: &SystemCopy, list: Blocks<'_>, count: usize, reply: &mut Reply)
+fn serve_read<S: Store>(
+    store: &S,
+    copy: &SystemCopy,
+    list: Blocks<'_>,
+    count: usize,
+    reply: &mut Reply,
+)
     requires empty { ⌜ held (now reply) ≡ [] ⌝ }
     requires all { ⌜ length (numbersLeft list) ≡ count ⌝ }
     requires few { ⌜ count ≤ 15 ⌝ }
@@ -82,7 +113,13 @@ fn serve_read<S: Store>(store: &S, copy: &SystemCopy, list: Blocks<'_>, count: u
     push_blocks(store, list, reply);
 }
 
-fn serve_write<S: Store>(store: &mut S, copy: &SystemCopy, list: Blocks<'_>, data: &[u8], reply: &mut Reply)
+fn serve_write<S: Store>(
+    store: &mut S,
+    copy: &SystemCopy,
+    list: Blocks<'_>,
+    data: &[u8],
+    reply: &mut Reply,
+)
     requires { ⌜ held (now reply) ≡ [] ⌝ ∗ ⌜ length (now «data») ≡ 16 * length (numbersLeft list) ⌝ }
     ensures said { λ _. ⌜ held (now (reply .exit)) ≡ writeFor (now (copy .entry) .identity .bytes) (now (copy .entry) .protection .bytes) (numbersLeft (list .entry)) ⌝ }
     ensures memory { λ _. ⌜ blocks (now (store .exit)) ≡ writtenFor (now (copy .entry) .protection .bytes) (blocks (now (store .entry))) (numbersLeft (list .entry)) (now («data» .entry)) ⌝ }

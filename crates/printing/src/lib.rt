@@ -41,7 +41,11 @@ fn show_writable<W: Write>(out: &mut W, writable: Writable) -> io::Result<()> {
     }
 }
 
-fn show_framed<W: Write>(out: &mut W, result: Result<Option<usize>, Refusal>, buffer: &[u8]) -> io::Result<()> {
+fn show_framed<W: Write>(
+    out: &mut W,
+    result: Result<Option<usize>, Refusal>,
+    buffer: &[u8],
+) -> io::Result<()> {
     match result {
         Ok(Some(length)) => {
             write!(out, "reply ")?;

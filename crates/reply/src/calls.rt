@@ -23,7 +23,7 @@ impl Reply {
     pub fn is_empty(&self) -> bool
         ensures { λ r. ⌜ r ≡ eqb (length (held (now (self .entry)))) 0 ⌝ }
     {
-        self.len == 0
+        self.len < 1
     }
 
     // Adds bytes behind those that are held.

@@ -73,7 +73,12 @@ fn bench_writable<S: Store>(tag: &Tag<S>) -> Answer
     }
 }
 
-fn jis_frame<S: Store>(heap: Global, tag: &mut Tag<S>, frame: &[u8], into: usize) -> Result<Answer, AllocError>
+fn jis_frame<S: Store>(
+    heap: Global,
+    tag: &mut Tag<S>,
+    frame: &[u8],
+    into: usize,
+) -> Result<Answer, AllocError>
     ensures { λ r. ⌜ Cases r (λ a. Performed blocks (now (tag .entry)) (Jis (frame .entry) into) a (now (tag .exit))) (λ _. now (tag .exit) ≡ now (tag .entry)) ⌝ }
 {
     let mut buffer = vec![in heap; 0u8; into]?;

@@ -1,11 +1,11 @@
 -- What is written is read again. Assumes nothing.
 use mathlib.Core.Path.{_≡_, refl, ap, ap₂, _∙_}
-use mathlib.Core.Bool.{true, cond}
+use mathlib.Core.Bool.{true, false, cond}
 use mathlib.Core.List.{List, [], _∷_, append-nil}
 use Prim.Native.Nat.{ℕ, min, _+_, _*_, _/_, _%_, _^_, _≤_, _<_}
 use native.Mathlib.Omega.{arith}
 use borrow.Author.Needs.{needs}
-use lib.Dec.{ltb}
+use lib.Dec.{ltb, eqb}
 use lib.ListN.{length}
 use Rattle.std.specs.Text.{asciiDigit}
 use Rattle.std.specs.Written.{decimal}
@@ -18,9 +18,9 @@ use Rattle.std.proofs.shelf.Tests.{and-from, and-parts}
 use Rattle.std.proofs.shelf.Ways.{tells}
 use Rattle.script.specs.declared.StoreKind.the-variants.{Flat, Log}
 use Rattle.script.specs.declared.fault.Fault.the-variants.{NotANumber}
-use Rattle.script.specs.Words.{Word, andThen, numberAfter, number, hexDigit, hexByte, hexWord, hexBytes, onto}
-use Rattle.script.specs.Line.{Filling, zeros, example, image, Asked, tag, fieldOn, fieldOff, benchRead, benchWrite, writable, dump, readContents, readWords}
-use Rattle.script.specs.Written.{digit, hex, hexWords, fillingWords, requestWords, Bytes, FillingFits, Fits, Written-lines-are-read}
+use Rattle.script.specs.Words.{Word, is, andThen, numberAfter, number, hexDigit, hexByte, hexWord, hexBytes, onto}
+use Rattle.script.specs.Line.{Filling, zeros, example, image, Asked, tag, fieldOn, fieldOff, jis, benchRead, benchWrite, writable, dump, readContents, readFrame, readWords}
+use Rattle.script.specs.Written.{digit, hex, hexWords, fillingWords, frameWords, requestWords, Bytes, FillingFits, Fits, Written-lines-are-read}
 use Rattle.script.proofs.Spaces.{visible, solid, allSolid, spaced-read}
 
 -- decimal numbers
@@ -81,6 +81,29 @@ hex-solid : (xs : List ℕ) → allSolid (hexWords xs) ≡ true
 hex-solid [] = refl
 hex-solid (x ∷ xs) = and-from _ true (hex-visible (x ∷ xs)) refl
 
+-- frames
+
+-- no digit is the first letter of `into`
+digit-not-into : (d : ℕ) → d < 16 → eqb (digit d) 105 ≡ false
+digit-not-into d h = grind (arith, tells)
+
+hex-not-into : (x : ℕ) (xs : List ℕ) → x < 256 → is (hex (x ∷ xs)) "into" ≡ false
+hex-not-into x xs h = rw (digit-not-into (x / 16) (omega arith))
+
+room-read : (xs : List ℕ) (n : ℕ) → n ≤ 65536 → readFrame xs (frameWords [] n) ≡ Ok (xs, n)
+room-read xs n h = ap (λ r. andThen (andThen r (λ m. Ok m)) (λ m. Ok (xs, m))) (number-decimal 65536 n (omega arith) h)
+
+frame-read : (xs : List ℕ) (n : ℕ) → Bytes xs → n ≤ 65536 → readFrame [] (frameWords xs n) ≡ Ok (xs, n)
+frame-read [] n h k = room-read [] n k
+frame-read (x ∷ xs) n h k = rw (hex-not-into x xs (h .0), word-read (x ∷ xs) h) (room-read (x ∷ xs) n k)
+
+room-solid : (n : ℕ) → n ≤ 65536 → allSolid (frameWords [] n) ≡ true
+room-solid n h = and-from _ true (decimal-solid n h) refl
+
+frame-solid : (xs : List ℕ) (n : ℕ) → n ≤ 65536 → allSolid (frameWords xs n) ≡ true
+frame-solid [] n h = room-solid n h
+frame-solid (x ∷ xs) n h = and-from _ _ (hex-visible (x ∷ xs)) (room-solid n h)
+
 -- requests
 
 filling-read : (f : Filling) → FillingFits f → readContents (fillingWords f) ≡ Ok f
@@ -93,6 +116,7 @@ request-read (tag Flat f) h = ap (λ r. andThen (andThen r (λ g. Ok (tag Flat g
 request-read (tag Log f) h = ap (λ r. andThen (andThen r (λ g. Ok (tag Log g))) (λ a. Ok (Some a))) (filling-read f h)
 request-read fieldOn h = refl
 request-read fieldOff h = refl
+request-read (jis xs n) h = ap (λ r. andThen (andThen r (λ f. Ok (jis (f .0) (f .1)))) (λ a. Ok (Some a))) (frame-read xs n (h .0) (h .1))
 request-read (benchRead b n) h =
     ap₂ (λ r s. andThen (andThen r (λ block. andThen (andThen s (λ m. Ok m)) (λ into. Ok (benchRead block into)))) (λ a. Ok (Some a)))
     (number-decimal 65535 b (omega arith) (h .0))
@@ -114,6 +138,7 @@ request-solid (tag Flat f) h = filling-solid f
 request-solid (tag Log f) h = filling-solid f
 request-solid fieldOn h = refl
 request-solid fieldOff h = refl
+request-solid (jis xs n) h = frame-solid xs n (h .1)
 request-solid (benchRead b n) h = and-from _ _ (decimal-solid b (omega arith)) (and-from _ true (decimal-solid n (omega arith)) refl)
 request-solid (benchWrite b xs) h = and-from _ _ (decimal-solid b (omega arith)) (hex-solid xs)
 request-solid writable h = refl

@@ -14,8 +14,8 @@ use Rattle.std.specs.declared.result.Result.{Result}
 use Rattle.std.specs.declared.result.Result.the-variants.{Ok, Err}
 use Rattle.script.specs.declared.fault.Fault.{Fault}
 use Rattle.script.specs.declared.fault.Fault.the-variants.{UnknownCommand, TagStore, TagContents, FieldState, BenchAction, NotInto, NumberMissing, NotANumber, NotHex, OddDigits, TooMany, OutOfMemory}
-use Rattle.script.specs.Words.{Word, wordsOf, withoutReturn, is, comment, andThen, ended, number, hexDigit, hexByte, hexWord, hexBytes}
-use Rattle.script.specs.Line.{Asked, example, fieldOn, fieldOff, writable, dump, readStore, readContents, readTag, readField, readSize, readInto, readBenchRead, readBenchWrite, readBench, readCommand, readWords}
+use Rattle.script.specs.Words.{Word, wordsOf, withoutReturn, is, comment, andThen, ended, number, hexDigit, hexByte, hexWord, hexBytes, onto}
+use Rattle.script.specs.Line.{Asked, example, fieldOn, fieldOff, jis, writable, dump, readStore, readContents, readTag, readField, readSize, readInto, readFrame, readFramed, readBenchRead, readBenchWrite, readBench, readCommand, readWords}
 use Rattle.script.specs.Written.{Bytes, FillingFits, Fits, Faults-are-of-lines, Read-requests-fit}
 
 abbrev OfLine : Fault → Type 0
@@ -79,9 +79,12 @@ word-fair [] = ok tt
 word-fair (a ∷ []) = then-fair (digit-fair a) (λ _ _. fault tt)
 word-fair (a ∷ b ∷ w) = then-fair (byte-fair a b) (λ x h. then-fair (word-fair w) (λ xs k. ok (h, k)))
 
+onto-fair : (xs : List ℕ) {r : Result (List ℕ) Fault} → Bytes xs → Fair Bytes r → Fair Bytes (onto xs r)
+onto-fair xs h k = then-fair k (λ ys k. ok (all-append (λ x. x < 256) xs ys h k))
+
 bytes-fair : (ws : List Word) → Fair Bytes (hexBytes ws)
 bytes-fair [] = ok tt
-bytes-fair (w ∷ ws) = then-fair (word-fair w) (λ xs h. then-fair (bytes-fair ws) (λ ys k. ok (all-append (λ x. x < 256) xs ys h k)))
+bytes-fair (w ∷ ws) = then-fair (word-fair w) (λ xs h. onto-fair xs h (bytes-fair ws))
 
 ends-fair : {X : Type 0} {P : X → Type 0} (ws : List Word) (x : X) → P x → Fair P (andThen (ended ws) (λ _. Ok x))
 ends-fair ws x h = then-fair (ended-fair ws) (λ _ _. ok h)
@@ -109,6 +112,15 @@ into-fair : (ws : List Word) → Fair (λ n. n ≤ 65536) (readInto ws)
 into-fair [] = ok (omega arith)
 into-fair (w ∷ ws) = cond-fair (is w "into") (λ _. size-fair ws) (fault tt)
 
+frame-fair : (xs : List ℕ) (ws : List Word) → Bytes xs → Fair (λ f. Bytes (f .0) × (f .1 ≤ 65536)) (readFrame xs ws)
+frame-fair xs [] h = ok (h, omega arith)
+frame-fair xs (w ∷ ws) h =
+    cond-fair (is w "into") (λ _. then-fair (size-fair ws) (λ n k. ok (h, k)))
+    (then-fair (onto-fair xs h (word-fair w)) (λ ys k. frame-fair ys ws k))
+
+framed-fair : (asked : List ℕ → ℕ → Asked) → ((xs : List ℕ) (n : ℕ) → Bytes xs × (n ≤ 65536) → Fits (asked xs n)) → (ws : List Word) → Fair Fits (readFramed asked ws)
+framed-fair asked fits ws = then-fair (frame-fair [] ws tt) (λ f h. ok (fits (f .0) (f .1) h))
+
 bench-read-fair : (ws : List Word) → Fair Fits (readBenchRead ws)
 bench-read-fair [] = fault tt
 bench-read-fair (w ∷ ws) = then-fair (number-fair 65535 w) (λ block h. then-fair (into-fair ws) (λ into k. ok (h, k)))
@@ -125,10 +137,11 @@ command-fair : (w : Word) (ws : List Word) → Fair Fits (readCommand w ws)
 command-fair w ws =
     cond-fair (is w "tag") (λ _. tag-fair ws)
     (cond-fair (is w "field") (λ _. field-fair ws)
+    (cond-fair (is w "jis") (λ _. framed-fair jis (λ xs n h. h) ws)
     (cond-fair (is w "bench") (λ _. bench-fair ws)
     (cond-fair (is w "writable") (λ _. ends-fair ws writable tt)
     (cond-fair (is w "dump") (λ _. ends-fair ws dump tt)
-    (fault tt)))))
+    (fault tt))))))
 
 abbrev FitsIfAny : Option Asked → Type 0
 FitsIfAny None = Unit {0}

@@ -12,10 +12,10 @@ use Rattle.script.specs.declared.StoreKind.the-variants.{Flat, Log}
 use Rattle.script.specs.declared.Contents.{Contents}
 use Rattle.script.specs.declared.Contents.the-variants.{Zeros, Example, Image}
 use Rattle.script.specs.declared.Request.{Request}
-use Rattle.script.specs.declared.Request.the-variants.{Tag, FieldOn, FieldOff, BenchRead, BenchWrite, Writable, Dump}
+use Rattle.script.specs.declared.Request.the-variants.{Tag, FieldOn, FieldOff, Jis, BenchRead, BenchWrite, Writable, Dump}
 use Rattle.script.specs.declared.fault.Fault.{Fault}
 use Rattle.script.specs.declared.fault.Fault.the-variants.{UnknownCommand, TagStore, TagContents, FieldState, BenchAction, NotInto, NumberMissing}
-use Rattle.script.specs.Words.{Word, wordsOf, withoutReturn, is, comment, andThen, ended, number, hexBytes}
+use Rattle.script.specs.Words.{Word, wordsOf, withoutReturn, is, comment, andThen, ended, number, hexWord, hexBytes, onto}
 
 -- a request and its parts, with lists in the place of vectors
 pub data Filling : Type 0 where
@@ -27,6 +27,7 @@ pub data Asked : Type 0 where
   tag : StoreKind → Filling → Asked
   fieldOn : Asked
   fieldOff : Asked
+  jis : List ℕ → ℕ → Asked
   benchRead : ℕ → ℕ → Asked
   benchWrite : ℕ → List ℕ → Asked
   writable : Asked
@@ -41,6 +42,7 @@ abbrev pub told : Request → Asked
 told (Tag store contents) = tag store (filling contents)
 told FieldOn = fieldOn
 told FieldOff = fieldOff
+told (Jis frame into) = jis (vec-items frame) into
 told (BenchRead block into) = benchRead block into
 told (BenchWrite block v) = benchWrite block (vec-items v)
 told Writable = writable
@@ -78,6 +80,16 @@ abbrev pub readInto : List Word → Result ℕ Fault
 readInto [] = Ok 16
 readInto (w ∷ ws) = cond (is w "into") (readSize ws) (Err NotInto)
 
+-- a frame that begins with the bytes xs: more of its bytes, then nothing or `into N`
+abbrev pub readFrame : List ℕ → List Word → Result (List ℕ × ℕ) Fault
+readFrame xs [] = Ok (xs, 256)
+readFrame xs (w ∷ ws) =
+    cond (is w "into") (andThen (readSize ws) (λ n. Ok (xs, n)))
+    (andThen (onto xs (hexWord w)) (λ ys. readFrame ys ws))
+
+abbrev pub readFramed : (List ℕ → ℕ → Asked) → List Word → Result Asked Fault
+readFramed asked ws = andThen (readFrame [] ws) (λ f. Ok (asked (f .0) (f .1)))
+
 abbrev pub readBenchRead : List Word → Result Asked Fault
 readBenchRead [] = Err NumberMissing
 readBenchRead (w ∷ ws) = andThen (number 65535 w) (λ block. andThen (readInto ws) (λ into. Ok (benchRead block into)))
@@ -98,10 +110,11 @@ abbrev pub readCommand : Word → List Word → Result Asked Fault
 readCommand w ws =
     cond (is w "tag") (readTag ws)
     (cond (is w "field") (readField ws)
+    (cond (is w "jis") (readFramed jis ws)
     (cond (is w "bench") (readBench ws)
     (cond (is w "writable") (andThen (ended ws) (λ _. Ok writable))
     (cond (is w "dump") (andThen (ended ws) (λ _. Ok dump))
-    (Err UnknownCommand)))))
+    (Err UnknownCommand))))))
 
 abbrev pub readWords : List Word → Result (Option Asked) Fault
 readWords [] = Ok None

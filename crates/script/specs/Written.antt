@@ -13,7 +13,7 @@ use Rattle.script.specs.declared.StoreKind.{StoreKind}
 use Rattle.script.specs.declared.StoreKind.the-variants.{Flat, Log}
 use Rattle.script.specs.declared.fault.Fault.the-variants.{OutOfMemory}
 use Rattle.script.specs.Words.{Word, withoutReturn}
-use Rattle.script.specs.Line.{Filling, zeros, example, image, Asked, tag, fieldOn, fieldOff, benchRead, benchWrite, writable, dump, readLine}
+use Rattle.script.specs.Line.{Filling, zeros, example, image, Asked, tag, fieldOn, fieldOff, jis, benchRead, benchWrite, writable, dump, readLine}
 
 -- the digit of a number below 16, in upper case
 abbrev pub digit : ℕ → ℕ
@@ -38,10 +38,15 @@ fillingWords zeros = []
 fillingWords example = codes "example" ∷ []
 fillingWords (image xs) = codes "image" ∷ hexWords xs
 
+-- the bytes of a frame, and the room for the reply to it
+abbrev pub frameWords : List ℕ → ℕ → List Word
+frameWords xs into = hexWords xs ++ codes "into" ∷ decimal into ∷ []
+
 abbrev pub requestWords : Asked → List Word
 requestWords (tag store contents) = codes "tag" ∷ storeWord store ∷ fillingWords contents
 requestWords fieldOn = codes "field" ∷ codes "on" ∷ []
 requestWords fieldOff = codes "field" ∷ codes "off" ∷ []
+requestWords (jis xs into) = codes "jis" ∷ frameWords xs into
 requestWords (benchRead block into) = codes "bench" ∷ codes "read" ∷ decimal block ∷ codes "into" ∷ decimal into ∷ []
 requestWords (benchWrite block xs) = codes "bench" ∷ codes "write" ∷ decimal block ∷ hexWords xs
 requestWords writable = codes "writable" ∷ []
@@ -70,6 +75,7 @@ abbrev pub Fits : Asked → Type 0
 Fits (tag store contents) = FillingFits contents
 Fits fieldOn = Unit {0}
 Fits fieldOff = Unit {0}
+Fits (jis xs into) = Bytes xs × (into ≤ 65536)
 Fits (benchRead block into) = (block ≤ 65535) × (into ≤ 65536)
 Fits (benchWrite block xs) = (block ≤ 65535) × Bytes xs
 Fits writable = Unit {0}

@@ -2,18 +2,23 @@
 //
 //     tag flat|log [example | image HEX]
 //     field on|off
+//     jis HEX [into ROOM]
 //     bench read BLOCK [into ROOM]
 //     bench write BLOCK HEX
 //     writable
 //     dump
 //
-// BLOCK and ROOM are decimal numbers, and HEX is pairs of hex digits with spaces between pairs where one likes.
+// BLOCK and ROOM are decimal numbers. HEX is pairs of hex digits with spaces between pairs where one likes, and may
+// be empty.
 // A line that is empty or begins with `#` asks for nothing, and a carriage return at its end is passed over.
+ghost use mathlib.Core.List.{[]};
 ghost use mathlib.Core.Path.{_≡_};
+ghost use Rattle.std.specs.Of.Vec.{vec-items};
 ghost use Rattle.std.specs.Options.{mapped};
 ghost use Rattle.script.specs.Words.{wordsOf, Gives};
-ghost use Rattle.script.specs.Line.{told, filling, readContents, readStore, readTag, readField, readSize, readInto, readBenchRead, readBenchWrite, readBench, readCommand, readLine};
+ghost use Rattle.script.specs.Line.{told, filling, readContents, readStore, readTag, readField, readSize, readInto, jis, readFrame, readFramed, readBenchRead, readBenchWrite, readBench, readCommand, readLine};
 use std::alloc::Global;
+use values::push_hex;
 use values::read_hex;
 use values::read_number;
 use words::Words;
@@ -38,6 +43,9 @@ const LAST_BLOCK: u32 = 65535;
 
 // The room that a read has where the line names none.
 const USUAL_ROOM: usize = 16;
+
+// The room that the reply to a frame has where the line names none.
+const USUAL_REPLY_ROOM: usize = 256;
 
 // More room than this counts as this.
 const MOST_ROOM: u32 = 65536;
@@ -64,6 +72,10 @@ pub enum Request {
     },
     FieldOn,
     FieldOff,
+    Jis {
+        frame: Vec<u8>,
+        into: usize,
+    },
     BenchRead {
         block: u16,
         into: usize,
@@ -99,6 +111,8 @@ fn read_command(heap: Global, command: &[u8], words: Words<'_>) -> Result<Reques
         read_tag(heap, words)
     } else if is(command, b"field") {
         read_field(words)
+    } else if is(command, b"jis") {
+        read_jis(heap, words)
     } else if is(command, b"bench") {
         read_bench(heap, words)
     } else if is(command, b"writable") {
@@ -166,6 +180,27 @@ fn read_field(mut words: Words<'_>) -> Result<Request, Fault>
     } else {
         Err(Fault::FieldState)
     }
+}
+
+fn read_jis(heap: Global, words: Words<'_>) -> Result<Request, Fault>
+    ensures { λ r. ⌜ Gives told r (readFramed jis (wordsOf (now (words .entry .rest)))) ⌝ }
+{
+    let (frame, into) = read_frame(heap, words)?;
+    Ok(Request::Jis { frame, into })
+}
+
+// The bytes of a frame, and the room for the reply to it.
+fn read_frame(heap: Global, mut words: Words<'_>) -> Result<(Vec<u8>, usize), Fault>
+    ensures { λ r. ⌜ Gives (λ f. (vec-items (f .0), f .1)) r (readFrame [] (wordsOf (now (words .entry .rest)))) ⌝ }
+{
+    let mut frame = Vec::new(heap);
+    while let Some(word) = words.next() {
+        if is(word, b"into") {
+            return Ok((frame, read_size(words)?));
+        }
+        push_hex(&mut frame, word)?;
+    }
+    Ok((frame, USUAL_REPLY_ROOM))
 }
 
 fn read_bench(heap: Global, mut words: Words<'_>) -> Result<Request, Fault>

@@ -42,7 +42,7 @@ fn hex_byte(high: u8, low: u8) -> Result<u8, Fault>
 }
 
 // Appends the bytes that the pairs of digits of a word write.
-fn push_hex(bytes: &mut Vec<u8>, word: &[u8]) -> Result<(), Fault>
+pub(crate) fn push_hex(bytes: &mut Vec<u8>, word: &[u8]) -> Result<(), Fault>
     ensures { λ r. ⌜ Gives (λ _. vec-items (now (bytes .exit))) r (onto (vec-items (now (bytes .entry))) (hexWord (now (word .entry)))) ⌝ }
 {
     let mut rest = word;

@@ -104,7 +104,6 @@ module _ (m : Memory) (sm : Shaped m) (h : History) (s : Model) (i : Inv m h s) 
   }
   stepped (bench-write b d (Err x)) t e = same-inv m (bench-write b d (Err x) ∷ h) s t (e .1) record { memory = i .memory; rules = i .rules; identity = i .identity }
   stepped (bench-writable w) t e = same-inv m (bench-writable w ∷ h) s t (e .1) record { memory = i .memory; rules = i .rules; identity = i .identity }
-
   stepped (jis f before (Ok n) after) t e = same-inv m (jis f before (Ok n) after ∷ h) (withMemory s (jisMemory (s .copy) (s .memory) f)) t (e .1) record {
     memory =
         jis-remembered (s .copy) (s .memory) f (i .identity) shaped

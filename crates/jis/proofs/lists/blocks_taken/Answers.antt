@@ -3,9 +3,8 @@ use mathlib.Core.Bool.{true}
 use mathlib.Core.List.{List}
 use Prim.Native.Nat.{ℕ, _*_}
 use native.Mathlib.Omega.{arith}
-use lib.ListN.{length, take}
+use lib.ListN.{take}
 use Rattle.std.specs.declared.result.Result.the-variants.{Ok}
-use Rattle.jis.specs.declared.fault.Access.the-variants as access
 use Rattle.jis.specs.Elements.{sound, Listed}
 use Rattle.jis.specs.Commands.{dataWidth, asked, blocksOf}
 use Rattle.jis.proofs.Listing.{listed-front}

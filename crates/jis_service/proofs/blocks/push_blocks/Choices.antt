@@ -12,7 +12,7 @@ use Rattle.jis_service.proofs.blocks.push_blocks.Given as given
 abbrev pub Inv-loop-b : given.InvT-loop-b
 Inv-loop-b g l =
     (held (l .reply) ++ joined (λ block. block) (map (blockAt (g .S·Store .blocks (l .store))) (numbersLeft (l .list)))
-      ≡ held (l .entry .reply) ++ joined (λ block. block) (map (blockAt (g .S·Store .blocks (l .store))) (numbersLeft (l .entry .list))))
+    ≡ held (l .entry .reply) ++ joined (λ block. block) (map (blockAt (g .S·Store .blocks (l .store))) (numbersLeft (l .entry .list))))
     × (length (held (l .reply)) + 16 * length (numbersLeft (l .list)) ≡ length (held (l .entry .reply)) + 16 * length (numbersLeft (l .entry .list)))
 
 abbrev pub μ-loop-b : given.MeasureT-loop-b
