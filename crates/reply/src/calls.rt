@@ -4,7 +4,7 @@ ghost use Prim.Native.Nat.{_+_, _≤_};
 ghost use lib.Dec.{eqb};
 ghost use lib.ListN.{length, take};
 ghost use Rattle.checksum.specs.Checksum.{jisChecksum};
-ghost use Rattle.reply.specs.Frames.{jisFrame, jisSealed};
+ghost use Rattle.reply.specs.Frames.{jisFrame, jisSealed, typeBFrame};
 ghost use Rattle.reply.specs.Held.{held, over, sent};
 use crate::writer::Reply;
 
@@ -51,6 +51,16 @@ impl Reply {
         frame.push(payload);
         frame.push_checksum();
         *self = frame;
+    }
+
+    // Makes the body that is held a frame of Type B.
+    pub fn seal_type_b(&mut self)
+        requires { ⌜ length (held (now self)) ≤ 254 ⌝ }
+        ensures items { λ _. ⌜ held (now (self .exit)) ≡ typeBFrame (held (now (self .entry))) ⌝ }
+        ensures len { λ _. ⌜ length (held (now (self .exit))) ≡ length (held (now (self .entry))) + 2 ⌝ }
+    {
+        let checksum = checksum::type_b(self.as_bytes());
+        self.push(&checksum);
     }
 
     // Copies the reply to the front of the caller's buffer, and says how long it is: nothing for silence.

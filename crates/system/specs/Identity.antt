@@ -15,6 +15,10 @@ systemCode x = take 2 (drop 0 x)
 abbrev pub idm : List ℕ → List ℕ
 idm x = take 8 (drop 2 x)
 
+-- PUPI is the last four bytes of IDM
+abbrev pub pupi : List ℕ → List ℕ
+pupi x = take 4 (drop 6 x)
+
 -- manufacture parameter, 2 bytes
 abbrev pub pmm : List ℕ → List ℕ
 pmm x = take 2 (drop 10 x)

@@ -1,7 +1,7 @@
 ghost use mathlib.Core.Path.{_≡_};
 ghost use lib.ListN.{length};
 ghost use Rattle.memory.specs.Memory.{blockSize};
-ghost use Rattle.system.specs.Identity.{systemCode, idm, pmm, afi, fwi};
+ghost use Rattle.system.specs.Identity.{systemCode, idm, pupi, pmm, afi, fwi};
 
 // Block 30: who the tag is.
 #[derive(Clone, Copy)]
@@ -31,6 +31,14 @@ impl Identity {
         ensures len { λ r. ⌜ length (now r) ≡ 8 ⌝ }
     {
         &self.bytes[2..10]
+    }
+
+    // PUPI, by which Type B names the tag: the last four bytes of IDM.
+    pub fn pupi(&self) -> &[u8]
+        ensures value { λ r. ⌜ now r ≡ pupi (now (self .entry) .bytes) ⌝ }
+        ensures len { λ r. ⌜ length (now r) ≡ 4 ⌝ }
+    {
+        &self.bytes[6..10]
     }
 
     // PMM, the manufacture parameter.

@@ -1,0 +1,4 @@
+pub mod Blocks
+mod Codec
+mod Parts
+pub mod Ranges

@@ -1,0 +1,4 @@
+pub mod Orders
+pub mod Barred
+pub mod Performed
+pub mod Laws

@@ -1,0 +1,3 @@
+mod Cuts
+pub mod Joins
+mod Pieces

@@ -1,0 +1,2 @@
+pub mod Codec
+mod Framing
