@@ -17,6 +17,8 @@ pub data Asked : Type 0 where
   bench-write : ℕ → List ℕ → Asked
   bench-writable : Asked
   jis : List ℕ → ℕ → Asked
+  type-b : List ℕ → ℕ → Asked
+  bench-performed : Asked
 
 abbrev pub asked : Call → Asked
 asked call.FieldOn = field-on
@@ -25,6 +27,8 @@ asked (call.BenchRead b n) = bench-read b n
 asked (call.BenchWrite b d) = bench-write b (d .now)
 asked call.BenchWritable = bench-writable
 asked (call.Jis f n) = jis (f .now) n
+asked (call.TypeB f n) = type-b (f .now) n
+asked call.BenchPerformed = bench-performed
 
 abbrev pub toldCall : Option Call → Option Asked
 toldCall None = None
@@ -39,4 +43,6 @@ callOf (line.BenchRead b n) = Some (bench-read b n)
 callOf (line.BenchWrite b d) = Some (bench-write b (vec-items d))
 callOf line.Writable = Some bench-writable
 callOf (line.Jis f n) = Some (jis (vec-items f) n)
+callOf (line.TypeB f n) = Some (type-b (vec-items f) n)
+callOf line.Performed = Some bench-performed
 callOf line.Dump = None

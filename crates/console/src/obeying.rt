@@ -32,6 +32,11 @@ pub fn call_of<'a>(request: &'a Request) -> Option<Call<'a>>
             frame: frame.as_slice(),
             into: *into,
         }),
+        Request::TypeB { frame, into } => Some(Call::TypeB {
+            frame: frame.as_slice(),
+            into: *into,
+        }),
+        Request::Performed => Some(Call::BenchPerformed),
         Request::Dump => None,
     }
 }

@@ -65,6 +65,7 @@ pub fn show<W: Write>(out: &mut W, answer: &Answer) -> io::Result<()> {
         Answer::Written { result } => show_done(out, *result),
         Answer::Figure { writable } => show_writable(out, *writable),
         Answer::Framed { result, buffer } => show_framed(out, *result, buffer.as_slice()),
+        Answer::Performed { count } => writeln!(out, "performed {count}"),
     }
 }
 

@@ -13,15 +13,15 @@ use Rattle.std.specs.declared.result.Result.{Result}
 use Rattle.memory.specs.declared.refusal.Refusal.{Refusal}
 use Rattle.memory.specs.Memory.{Memory, Shaped}
 use Rattle.tag.specs.declared.state.Tag.{Tag}
-use Rattle.tag.specs.History.{Event, bench-read, jis, History}
+use Rattle.tag.specs.History.{Event, bench-read, History}
 use Rattle.tag.specs.View.{Called}
 use Rattle.tag.specs.Runs.{call}
 use Rattle.tag.proofs.Law.{kept-law}
 use Rattle.runner.specs.declared.call.Call.{Call}
-use Rattle.runner.specs.declared.call.Call.the-variants.{BenchRead, Jis}
+use Rattle.runner.specs.declared.call.Call.the-variants.{BenchRead}
 use Rattle.runner.specs.declared.call.Answer.{Answer}
 use Rattle.runner.specs.declared.call.Answer.the-variants.{Read, Framed}
-use Rattle.runner.specs.Told.{Tells, read, framed, Told, more, Performed}
+use Rattle.runner.specs.Told.{Tells, read, Told, more, Performed}
 
 module _ {S : Type 0} (blocks : S → Memory) (shaped : (s : S) → Shaped (blocks s)) where
   pub performed : (t u : Tag S) (c k : Call) (a : Answer) (e : Event) → c ≡ k → Tells k a e → Called blocks t e u → Performed blocks t c a u
@@ -40,11 +40,13 @@ module _ {S : Type 0} (blocks : S → Memory) (shaped : (s : S) → Shaped (bloc
       (subst (λ y. Called blocks t (bench-read b (replicate n 0) r y) t) (sym filled) (subst (λ x. Called blocks t (bench-read b x r after) t) zero called))
 
   -- a frame, likewise
-  pub performed-frame : (t u : Tag S) (c : Call) (f : RefT (List ℕ)) (n : ℕ) (r : Result (Option ℕ) Refusal) (v : Vec ℕ Global) (before after : List ℕ) →
-      c ≡ Jis f n → before ≡ replicate n 0 → vec-items v ≡ after → Called blocks t (jis (f .now) before r after) u → Performed blocks t c (Framed r v) u
-  performed-frame t u c f n r v before after is zero filled called =
-      performed t u c (Jis f n) (Framed r v) (jis (f .now) (replicate n 0) r (vec-items v)) is framed
-      (subst (λ y. Called blocks t (jis (f .now) (replicate n 0) r y) u) (sym filled) (subst (λ x. Called blocks t (jis (f .now) x r after) u) zero called))
+  pub performed-frame : (kind : RefT (List ℕ) → ℕ → Call) (event : List ℕ → List ℕ → Result (Option ℕ) Refusal → List ℕ → Event) →
+      ((f : RefT (List ℕ)) (n : ℕ) (r : Result (Option ℕ) Refusal) (v : Vec ℕ Global) → Tells (kind f n) (Framed r v) (event (f .now) (replicate n 0) r (vec-items v))) →
+      (t u : Tag S) (c : Call) (f : RefT (List ℕ)) (n : ℕ) (r : Result (Option ℕ) Refusal) (v : Vec ℕ Global) (before after : List ℕ) →
+      c ≡ kind f n → before ≡ replicate n 0 → vec-items v ≡ after → Called blocks t (event (f .now) before r after) u → Performed blocks t c (Framed r v) u
+  performed-frame kind event tells t u c f n r v before after is zero filled called =
+      performed t u c (kind f n) (Framed r v) (event (f .now) (replicate n 0) r (vec-items v)) is (tells f n r v)
+      (subst (λ y. Called blocks t (event (f .now) (replicate n 0) r y) u) (sym filled) (subst (λ x. Called blocks t (event (f .now) x r after) u) zero called))
 
 -- one call more, in the list and in the history
 pub told-more : (cs : List Call) (i : ℕ) (xs ys : List Answer) (c d : Call) (a : Answer) (h : History) (e : Event) → i < length cs → c ≡ getD cs i d → ys ≡ xs ++ a ∷ [] →

@@ -13,12 +13,13 @@ use Rattle.memory.specs.Memory.{Memory}
 use Rattle.memory.specs.declared.refusal.Refusal.{Refusal}
 use Rattle.system.specs.declared.figure.Writable.{Writable}
 use Rattle.tag.specs.declared.state.Tag.{Tag}
-use Rattle.tag.specs.History.{Event, field-on, field-off, bench-read, bench-write, bench-writable, jis, History}
+use Rattle.tag.specs.History.{Event, field-on, field-off, bench-read, bench-write, bench-writable, jis, type-b, bench-performed, History}
 use Rattle.tag.specs.View.{Called}
 use Rattle.tag.specs.Runs.{Ran, Kept}
 use Rattle.runner.specs.declared.call.Call.{Call}
-use Rattle.runner.specs.declared.call.Call.the-variants.{FieldOn, FieldOff, BenchRead, BenchWrite, BenchWritable, Jis}
+use Rattle.runner.specs.declared.call.Call.the-variants.{FieldOn, FieldOff, BenchRead, BenchWrite, BenchWritable, Jis, TypeB, BenchPerformed}
 use Rattle.runner.specs.declared.call.Answer.{Answer}
+use Rattle.runner.specs.declared.call.Answer.the-variants as answer
 use Rattle.runner.specs.declared.call.Answer.the-variants.{Field, Read, Written, Figure, Framed}
 
 -- the event that a call and its answer are; a buffer lent to a call is one of zeros
@@ -29,6 +30,8 @@ pub data Tells : Call → Answer → Event → Type 0 where
   written : {b : ℕ} {d : RefT (List ℕ)} {r : Result (Unit {0}) Refusal} → Tells (BenchWrite b d) (Written r) (bench-write b (d .now) r)
   figure : {w : Writable} → Tells BenchWritable (Figure w) (bench-writable w)
   framed : {f : RefT (List ℕ)} {n : ℕ} {r : Result (Option ℕ) Refusal} {v : Vec ℕ Global} → Tells (Jis f n) (Framed r v) (jis (f .now) (replicate n 0) r (vec-items v))
+  framed-b : {f : RefT (List ℕ)} {n : ℕ} {r : Result (Option ℕ) Refusal} {v : Vec ℕ Global} → Tells (TypeB f n) (Framed r v) (type-b (f .now) (replicate n 0) r (vec-items v))
+  counted : {k : ℕ} → Tells BenchPerformed (answer.Performed k) (bench-performed k)
 
 -- the history that a list of calls and the list of their answers tell, both in the order of the calls
 pub data Told : List Call → List Answer → History → Type 0 where

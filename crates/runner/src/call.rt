@@ -12,6 +12,8 @@ pub enum Call<'a> {
     BenchWritable,
     // with a reply buffer of that many zeros
     Jis { frame: &'a [u8], into: usize },
+    TypeB { frame: &'a [u8], into: usize },
+    BenchPerformed,
 }
 
 // What a call answers.
@@ -34,5 +36,9 @@ pub enum Answer {
     Framed {
         result: Result<Option<usize>, Refusal>,
         buffer: Vec<u8>,
+    },
+    // the orders performed since the field last came on
+    Performed {
+        count: u64,
     },
 }

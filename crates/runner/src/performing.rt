@@ -3,7 +3,7 @@ ghost use Rattle.std.specs.Of.Vec.{vec-items};
 ghost use Rattle.std.specs.Results.{Cases};
 ghost use Rattle.std.specs.Vec.{made};
 ghost use Rattle.tag.specs.View.{Made};
-ghost use Rattle.runner.specs.declared.call.Call.the-variants.{FieldOn, FieldOff, BenchRead, BenchWrite, BenchWritable, Jis};
+ghost use Rattle.runner.specs.declared.call.Call.the-variants.{FieldOn, FieldOff, BenchRead, BenchWrite, BenchWritable, Jis, TypeB, BenchPerformed};
 ghost use Rattle.runner.specs.Told.{Performed, Performed-all};
 use crate::call::Answer;
 use crate::call::Call;
@@ -27,6 +27,8 @@ pub fn perform<S: Store>(
         Call::BenchWrite { block, bytes } => Ok(bench_write(tag, *block, bytes)),
         Call::BenchWritable => Ok(bench_writable(tag)),
         Call::Jis { frame, into } => jis_frame(heap, tag, frame, *into),
+        Call::TypeB { frame, into } => type_b_frame(heap, tag, frame, *into),
+        Call::BenchPerformed => Ok(bench_performed(tag)),
     }
 }
 
@@ -84,6 +86,22 @@ fn jis_frame<S: Store>(
     let mut buffer = vec![in heap; 0u8; into]?;
     let result = tag.jis_frame(frame, buffer.as_mut_slice());
     Ok(Answer::Framed { result, buffer })
+}
+
+fn type_b_frame<S: Store>(heap: Global, tag: &mut Tag<S>, frame: &[u8], into: usize) -> Result<Answer, AllocError>
+    ensures { λ r. ⌜ Cases r (λ a. Performed blocks (now (tag .entry)) (TypeB (frame .entry) into) a (now (tag .exit))) (λ _. now (tag .exit) ≡ now (tag .entry)) ⌝ }
+{
+    let mut buffer = vec![in heap; 0u8; into]?;
+    let result = tag.type_b_frame(frame, buffer.as_mut_slice());
+    Ok(Answer::Framed { result, buffer })
+}
+
+fn bench_performed<S: Store>(tag: &Tag<S>) -> Answer
+    ensures { λ a. ⌜ Performed blocks (now (tag .entry)) BenchPerformed a (now (tag .entry)) ⌝ }
+{
+    Answer::Performed {
+        count: tag.bench_performed(),
+    }
 }
 
 // Makes a tag over the store and performs the calls one after the other.

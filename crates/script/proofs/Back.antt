@@ -19,8 +19,8 @@ use Rattle.std.proofs.shelf.Ways.{tells}
 use Rattle.script.specs.declared.StoreKind.the-variants.{Flat, Log}
 use Rattle.script.specs.declared.fault.Fault.the-variants.{NotANumber}
 use Rattle.script.specs.Words.{Word, is, andThen, numberAfter, number, hexDigit, hexByte, hexWord, hexBytes, onto}
-use Rattle.script.specs.Line.{Filling, zeros, example, image, Asked, tag, fieldOn, fieldOff, jis, benchRead, benchWrite, writable, dump, readContents, readFrame, readWords}
-use Rattle.script.specs.Written.{digit, hex, hexWords, fillingWords, frameWords, requestWords, Bytes, FillingFits, Fits, Written-lines-are-read}
+use Rattle.script.specs.Line.{Filling, zeros, example, image, Asked, tag, fieldOn, fieldOff, jis, typeB, benchRead, benchWrite, performed, writable, dump, readContents, readFrame, readFramed, readWords}
+use Rattle.script.specs.Written.{digit, hex, hexWords, fillingWords, frameWords, requestWords, Bytes, FillingFits, FrameFits, Fits, Written-lines-are-read}
 use Rattle.script.proofs.Spaces.{visible, solid, allSolid, spaced-read}
 
 -- decimal numbers
@@ -111,12 +111,16 @@ filling-read zeros h = refl
 filling-read example h = refl
 filling-read (image xs) h = ap (λ r. andThen r (λ ys. Ok (image ys))) (bytes-read xs h)
 
+framed-read : (asked : List ℕ → ℕ → Asked) (xs : List ℕ) (n : ℕ) → FrameFits xs n → andThen (readFramed asked (frameWords xs n)) (λ a. Ok (Some a)) ≡ Ok (Some (asked xs n))
+framed-read asked xs n h = ap (λ r. andThen (andThen r (λ f. Ok (asked (f .0) (f .1)))) (λ a. Ok (Some a))) (frame-read xs n (h .0) (h .1))
+
 request-read : (a : Asked) → Fits a → readWords (requestWords a) ≡ Ok (Some a)
 request-read (tag Flat f) h = ap (λ r. andThen (andThen r (λ g. Ok (tag Flat g))) (λ a. Ok (Some a))) (filling-read f h)
 request-read (tag Log f) h = ap (λ r. andThen (andThen r (λ g. Ok (tag Log g))) (λ a. Ok (Some a))) (filling-read f h)
 request-read fieldOn h = refl
 request-read fieldOff h = refl
-request-read (jis xs n) h = ap (λ r. andThen (andThen r (λ f. Ok (jis (f .0) (f .1)))) (λ a. Ok (Some a))) (frame-read xs n (h .0) (h .1))
+request-read (jis xs n) h = framed-read jis xs n h
+request-read (typeB xs n) h = framed-read typeB xs n h
 request-read (benchRead b n) h =
     ap₂ (λ r s. andThen (andThen r (λ block. andThen (andThen s (λ m. Ok m)) (λ into. Ok (benchRead block into)))) (λ a. Ok (Some a)))
     (number-decimal 65535 b (omega arith) (h .0))
@@ -125,6 +129,7 @@ request-read (benchWrite b xs) h =
     ap₂ (λ r s. andThen (andThen r (λ block. andThen s (λ ys. Ok (benchWrite block ys)))) (λ a. Ok (Some a)))
     (number-decimal 65535 b (omega arith) (h .0))
     (bytes-read xs (h .1))
+request-read performed h = refl
 request-read writable h = refl
 request-read dump h = refl
 
@@ -139,8 +144,10 @@ request-solid (tag Log f) h = filling-solid f
 request-solid fieldOn h = refl
 request-solid fieldOff h = refl
 request-solid (jis xs n) h = frame-solid xs n (h .1)
+request-solid (typeB xs n) h = frame-solid xs n (h .1)
 request-solid (benchRead b n) h = and-from _ _ (decimal-solid b (omega arith)) (and-from _ true (decimal-solid n (omega arith)) refl)
 request-solid (benchWrite b xs) h = and-from _ _ (decimal-solid b (omega arith)) (hex-solid xs)
+request-solid performed h = refl
 request-solid writable h = refl
 request-solid dump h = refl
 

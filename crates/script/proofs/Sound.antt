@@ -15,8 +15,8 @@ use Rattle.std.specs.declared.result.Result.the-variants.{Ok, Err}
 use Rattle.script.specs.declared.fault.Fault.{Fault}
 use Rattle.script.specs.declared.fault.Fault.the-variants.{UnknownCommand, TagStore, TagContents, FieldState, BenchAction, NotInto, NumberMissing, NotANumber, NotHex, OddDigits, TooMany, OutOfMemory}
 use Rattle.script.specs.Words.{Word, wordsOf, withoutReturn, is, comment, andThen, ended, number, hexDigit, hexByte, hexWord, hexBytes, onto}
-use Rattle.script.specs.Line.{Asked, example, fieldOn, fieldOff, jis, writable, dump, readStore, readContents, readTag, readField, readSize, readInto, readFrame, readFramed, readBenchRead, readBenchWrite, readBench, readCommand, readWords}
-use Rattle.script.specs.Written.{Bytes, FillingFits, Fits, Faults-are-of-lines, Read-requests-fit}
+use Rattle.script.specs.Line.{Asked, example, fieldOn, fieldOff, jis, typeB, performed, writable, dump, readStore, readContents, readTag, readField, readSize, readInto, readFrame, readFramed, readBenchRead, readBenchWrite, readBench, readLone, readCommand, readWords}
+use Rattle.script.specs.Written.{Bytes, FillingFits, FrameFits, Fits, Faults-are-of-lines, Read-requests-fit}
 
 abbrev OfLine : Fault → Type 0
 OfLine UnknownCommand = Unit {0}
@@ -112,13 +112,13 @@ into-fair : (ws : List Word) → Fair (λ n. n ≤ 65536) (readInto ws)
 into-fair [] = ok (omega arith)
 into-fair (w ∷ ws) = cond-fair (is w "into") (λ _. size-fair ws) (fault tt)
 
-frame-fair : (xs : List ℕ) (ws : List Word) → Bytes xs → Fair (λ f. Bytes (f .0) × (f .1 ≤ 65536)) (readFrame xs ws)
+frame-fair : (xs : List ℕ) (ws : List Word) → Bytes xs → Fair (λ f. FrameFits (f .0) (f .1)) (readFrame xs ws)
 frame-fair xs [] h = ok (h, omega arith)
 frame-fair xs (w ∷ ws) h =
     cond-fair (is w "into") (λ _. then-fair (size-fair ws) (λ n k. ok (h, k)))
     (then-fair (onto-fair xs h (word-fair w)) (λ ys k. frame-fair ys ws k))
 
-framed-fair : (asked : List ℕ → ℕ → Asked) → ((xs : List ℕ) (n : ℕ) → Bytes xs × (n ≤ 65536) → Fits (asked xs n)) → (ws : List Word) → Fair Fits (readFramed asked ws)
+framed-fair : (asked : List ℕ → ℕ → Asked) → ((xs : List ℕ) (n : ℕ) → FrameFits xs n → Fits (asked xs n)) → (ws : List Word) → Fair Fits (readFramed asked ws)
 framed-fair asked fits ws = then-fair (frame-fair [] ws tt) (λ f h. ok (fits (f .0) (f .1) h))
 
 bench-read-fair : (ws : List Word) → Fair Fits (readBenchRead ws)
@@ -133,15 +133,21 @@ bench-fair : (ws : List Word) → Fair Fits (readBench ws)
 bench-fair [] = fault tt
 bench-fair (w ∷ ws) = cond-fair (is w "read") (λ _. bench-read-fair ws) (cond-fair (is w "write") (λ _. bench-write-fair ws) (fault tt))
 
+lone-fair : (w : Word) (ws : List Word) → Fair Fits (readLone w ws)
+lone-fair w ws =
+    cond-fair (is w "performed") (λ _. ends-fair ws performed tt)
+    (cond-fair (is w "writable") (λ _. ends-fair ws writable tt)
+    (cond-fair (is w "dump") (λ _. ends-fair ws dump tt)
+    (fault tt)))
+
 command-fair : (w : Word) (ws : List Word) → Fair Fits (readCommand w ws)
 command-fair w ws =
     cond-fair (is w "tag") (λ _. tag-fair ws)
     (cond-fair (is w "field") (λ _. field-fair ws)
     (cond-fair (is w "jis") (λ _. framed-fair jis (λ xs n h. h) ws)
+    (cond-fair (is w "b") (λ _. framed-fair typeB (λ xs n h. h) ws)
     (cond-fair (is w "bench") (λ _. bench-fair ws)
-    (cond-fair (is w "writable") (λ _. ends-fair ws writable tt)
-    (cond-fair (is w "dump") (λ _. ends-fair ws dump tt)
-    (fault tt))))))
+    (lone-fair w ws)))))
 
 abbrev FitsIfAny : Option Asked → Type 0
 FitsIfAny None = Unit {0}

@@ -12,7 +12,7 @@ use Rattle.script.specs.declared.StoreKind.the-variants.{Flat, Log}
 use Rattle.script.specs.declared.Contents.{Contents}
 use Rattle.script.specs.declared.Contents.the-variants.{Zeros, Example, Image}
 use Rattle.script.specs.declared.Request.{Request}
-use Rattle.script.specs.declared.Request.the-variants.{Tag, FieldOn, FieldOff, Jis, BenchRead, BenchWrite, Writable, Dump}
+use Rattle.script.specs.declared.Request.the-variants.{Tag, FieldOn, FieldOff, Jis, TypeB, BenchRead, BenchWrite, Performed, Writable, Dump}
 use Rattle.script.specs.declared.fault.Fault.{Fault}
 use Rattle.script.specs.declared.fault.Fault.the-variants.{UnknownCommand, TagStore, TagContents, FieldState, BenchAction, NotInto, NumberMissing}
 use Rattle.script.specs.Words.{Word, wordsOf, withoutReturn, is, comment, andThen, ended, number, hexWord, hexBytes, onto}
@@ -28,8 +28,10 @@ pub data Asked : Type 0 where
   fieldOn : Asked
   fieldOff : Asked
   jis : List ℕ → ℕ → Asked
+  typeB : List ℕ → ℕ → Asked
   benchRead : ℕ → ℕ → Asked
   benchWrite : ℕ → List ℕ → Asked
+  performed : Asked
   writable : Asked
   dump : Asked
 
@@ -43,8 +45,10 @@ told (Tag store contents) = tag store (filling contents)
 told FieldOn = fieldOn
 told FieldOff = fieldOff
 told (Jis frame into) = jis (vec-items frame) into
+told (TypeB frame into) = typeB (vec-items frame) into
 told (BenchRead block into) = benchRead block into
 told (BenchWrite block v) = benchWrite block (vec-items v)
+told Performed = performed
 told Writable = writable
 told Dump = dump
 
@@ -105,16 +109,23 @@ readBench (w ∷ ws) =
     (cond (is w "write") (readBenchWrite ws)
     (Err BenchAction))
 
+-- the commands that are one word
+abbrev pub readLone : Word → List Word → Result Asked Fault
+readLone w ws =
+    cond (is w "performed") (andThen (ended ws) (λ _. Ok performed))
+    (cond (is w "writable") (andThen (ended ws) (λ _. Ok writable))
+    (cond (is w "dump") (andThen (ended ws) (λ _. Ok dump))
+    (Err UnknownCommand)))
+
 -- the command w, and the words after it
 abbrev pub readCommand : Word → List Word → Result Asked Fault
 readCommand w ws =
     cond (is w "tag") (readTag ws)
     (cond (is w "field") (readField ws)
     (cond (is w "jis") (readFramed jis ws)
+    (cond (is w "b") (readFramed typeB ws)
     (cond (is w "bench") (readBench ws)
-    (cond (is w "writable") (andThen (ended ws) (λ _. Ok writable))
-    (cond (is w "dump") (andThen (ended ws) (λ _. Ok dump))
-    (Err UnknownCommand))))))
+    (readLone w ws)))))
 
 abbrev pub readWords : List Word → Result (Option Asked) Fault
 readWords [] = Ok None

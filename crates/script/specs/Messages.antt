@@ -6,7 +6,7 @@ use Rattle.script.specs.declared.fault.Fault.{Fault}
 use Rattle.script.specs.declared.fault.Fault.the-variants.{UnknownCommand, TagStore, TagContents, FieldState, BenchAction, NotInto, NumberMissing, NotANumber, NotHex, OddDigits, TooMany, OutOfMemory}
 
 abbrev pub messageOf : Fault → List ℕ
-messageOf UnknownCommand = codes "unknown command: use tag, field, jis, bench, writable or dump"
+messageOf UnknownCommand = codes "unknown command: use tag, field, jis, b, bench, performed, writable or dump"
 messageOf TagStore = codes "tag wants 'flat' or 'log'"
 messageOf TagContents = codes "after the store, tag wants nothing, 'example', or 'image' and hex digits"
 messageOf FieldState = codes "field wants 'on' or 'off'"

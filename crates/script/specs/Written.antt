@@ -13,7 +13,7 @@ use Rattle.script.specs.declared.StoreKind.{StoreKind}
 use Rattle.script.specs.declared.StoreKind.the-variants.{Flat, Log}
 use Rattle.script.specs.declared.fault.Fault.the-variants.{OutOfMemory}
 use Rattle.script.specs.Words.{Word, withoutReturn}
-use Rattle.script.specs.Line.{Filling, zeros, example, image, Asked, tag, fieldOn, fieldOff, jis, benchRead, benchWrite, writable, dump, readLine}
+use Rattle.script.specs.Line.{Filling, zeros, example, image, Asked, tag, fieldOn, fieldOff, jis, typeB, benchRead, benchWrite, performed, writable, dump, readLine}
 
 -- the digit of a number below 16, in upper case
 abbrev pub digit : ℕ → ℕ
@@ -47,8 +47,10 @@ requestWords (tag store contents) = codes "tag" ∷ storeWord store ∷ fillingW
 requestWords fieldOn = codes "field" ∷ codes "on" ∷ []
 requestWords fieldOff = codes "field" ∷ codes "off" ∷ []
 requestWords (jis xs into) = codes "jis" ∷ frameWords xs into
+requestWords (typeB xs into) = codes "b" ∷ frameWords xs into
 requestWords (benchRead block into) = codes "bench" ∷ codes "read" ∷ decimal block ∷ codes "into" ∷ decimal into ∷ []
 requestWords (benchWrite block xs) = codes "bench" ∷ codes "write" ∷ decimal block ∷ hexWords xs
+requestWords performed = codes "performed" ∷ []
 requestWords writable = codes "writable" ∷ []
 requestWords dump = codes "dump" ∷ []
 
@@ -70,14 +72,19 @@ FillingFits zeros = Unit {0}
 FillingFits example = Unit {0}
 FillingFits (image xs) = Bytes xs
 
+abbrev pub FrameFits : List ℕ → ℕ → Type 0
+FrameFits xs into = Bytes xs × (into ≤ 65536)
+
 -- numbers are within their caps, and bytes are bytes
 abbrev pub Fits : Asked → Type 0
 Fits (tag store contents) = FillingFits contents
 Fits fieldOn = Unit {0}
 Fits fieldOff = Unit {0}
-Fits (jis xs into) = Bytes xs × (into ≤ 65536)
+Fits (jis xs into) = FrameFits xs into
+Fits (typeB xs into) = FrameFits xs into
 Fits (benchRead block into) = (block ≤ 65535) × (into ≤ 65536)
 Fits (benchWrite block xs) = (block ≤ 65535) × Bytes xs
+Fits performed = Unit {0}
 Fits writable = Unit {0}
 Fits dump = Unit {0}
 

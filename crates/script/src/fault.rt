@@ -31,7 +31,8 @@ fn message_for(fault: Fault) -> &'static str
     ensures { λ r. ⌜ now r ≡ messageOf fault ⌝ }
 {
     match fault {
-        Fault::UnknownCommand => "unknown command: use tag, field, jis, bench, writable or dump",
+        Fault::UnknownCommand =>
+            "unknown command: use tag, field, jis, b, bench, performed, writable or dump",
         Fault::TagStore => "tag wants 'flat' or 'log'",
         Fault::TagContents =>
             "after the store, tag wants nothing, 'example', or 'image' and hex digits",

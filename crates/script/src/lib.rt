@@ -3,8 +3,10 @@
 //     tag flat|log [example | image HEX]
 //     field on|off
 //     jis HEX [into ROOM]
+//     b HEX [into ROOM]
 //     bench read BLOCK [into ROOM]
 //     bench write BLOCK HEX
+//     performed
 //     writable
 //     dump
 //
@@ -16,7 +18,7 @@ ghost use mathlib.Core.Path.{_≡_};
 ghost use Rattle.std.specs.Of.Vec.{vec-items};
 ghost use Rattle.std.specs.Options.{mapped};
 ghost use Rattle.script.specs.Words.{wordsOf, Gives};
-ghost use Rattle.script.specs.Line.{told, filling, readContents, readStore, readTag, readField, readSize, readInto, jis, readFrame, readFramed, readBenchRead, readBenchWrite, readBench, readCommand, readLine};
+ghost use Rattle.script.specs.Line.{told, filling, readContents, readStore, readTag, readField, readSize, readInto, jis, typeB, readFrame, readFramed, readBenchRead, readBenchWrite, readBench, readLone, readCommand, readLine};
 use std::alloc::Global;
 use values::push_hex;
 use values::read_hex;
@@ -76,6 +78,10 @@ pub enum Request {
         frame: Vec<u8>,
         into: usize,
     },
+    TypeB {
+        frame: Vec<u8>,
+        into: usize,
+    },
     BenchRead {
         block: u16,
         into: usize,
@@ -84,6 +90,7 @@ pub enum Request {
         block: u16,
         bytes: Vec<u8>,
     },
+    Performed,
     Writable,
     Dump,
 }
@@ -113,8 +120,22 @@ fn read_command(heap: Global, command: &[u8], words: Words<'_>) -> Result<Reques
         read_field(words)
     } else if is(command, b"jis") {
         read_jis(heap, words)
+    } else if is(command, b"b") {
+        read_type_b(heap, words)
     } else if is(command, b"bench") {
         read_bench(heap, words)
+    } else {
+        read_lone(command, words)
+    }
+}
+
+// The commands that are one word.
+fn read_lone(command: &[u8], words: Words<'_>) -> Result<Request, Fault>
+    ensures { λ r. ⌜ Gives told r (readLone (now (command .entry)) (wordsOf (now (words .entry .rest)))) ⌝ }
+{
+    if is(command, b"performed") {
+        check_end(words)?;
+        Ok(Request::Performed)
     } else if is(command, b"writable") {
         check_end(words)?;
         Ok(Request::Writable)
@@ -187,6 +208,13 @@ fn read_jis(heap: Global, words: Words<'_>) -> Result<Request, Fault>
 {
     let (frame, into) = read_frame(heap, words)?;
     Ok(Request::Jis { frame, into })
+}
+
+fn read_type_b(heap: Global, words: Words<'_>) -> Result<Request, Fault>
+    ensures { λ r. ⌜ Gives told r (readFramed typeB (wordsOf (now (words .entry .rest)))) ⌝ }
+{
+    let (frame, into) = read_frame(heap, words)?;
+    Ok(Request::TypeB { frame, into })
 }
 
 // The bytes of a frame, and the room for the reply to it.

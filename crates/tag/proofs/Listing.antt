@@ -8,8 +8,8 @@ use lib.ListN.{length, take, drop, length-take, length-drop}
 use lib.Seq.{take-append-seam, length-take-le}
 use lib.Dec.{eqb}
 use Rattle.std.proofs.shelf.Tests.{ne-eqb, both-ways}
-use Rattle.reply.specs.Frames.{jisFrame}
-use Rattle.tag.specs.Steps.{jisReply}
+use Rattle.reply.specs.Frames.{jisFrame, typeBFrame}
+use Rattle.tag.specs.Steps.{jisReply, typeBReply}
 use Rattle.std.specs.declared.option.Option.{Option}
 use Rattle.std.specs.declared.option.Option.the-variants.{Some, None}
 use Rattle.std.specs.declared.result.Result.{Result}
@@ -60,3 +60,7 @@ wrote-nothing (Ok (req code request slot)) reply h = refl
 wrote-nothing (Ok (read services n list)) reply h = refl
 wrote-nothing (Ok (write services n list d)) reply h = ap (λ t. cond t (inBlocks (numbers n list) d) []) h
 wrote-nothing (Err e) reply h = refl
+
+pub sealed-b : (xs out : List ℕ) → eqb (length xs) 0 ≡ false → out ≡ typeBFrame xs → out ≡ typeBReply xs
+sealed-b [] out h e = absurd (both-ways true h refl)
+sealed-b (x ∷ xs) out h e = e

@@ -21,6 +21,9 @@ pub data Event : Type 0 where
   bench-writable : Writable → Event
   -- frame, reply buffer before, answer, reply buffer after
   jis : List ℕ → List ℕ → Result (Option ℕ) Refusal → List ℕ → Event
+  type-b : List ℕ → List ℕ → Result (Option ℕ) Refusal → List ℕ → Event
+  -- answer
+  bench-performed : ℕ → Event
 
 abbrev pub History : Type 0
 History = List Event

@@ -3,7 +3,7 @@ use mathlib.Core.Path.{_≡_}
 use mathlib.Core.List.{List, [], _∷_, _++_}
 use lib.ListN.{take, drop}
 use Prim.Native.Nat.{ℕ, suc}
-use Rattle.memory.specs.Memory.{Memory, blockSize, withByte}
+use Rattle.memory.specs.Memory.{Memory, blockSize, blockOf, offsetOf, withByte}
 
 -- a byte put at an offset of a block
 pub record Put : Type 0 where
@@ -20,6 +20,11 @@ inBlock b o (v ∷ vs) = record { block = b; offset = o; value = v } ∷ inBlock
 abbrev pub inBlocks : List ℕ → List ℕ → List Put
 inBlocks [] d = []
 inBlocks (b ∷ bs) d = inBlock b 0 (take blockSize d) ++ inBlocks bs (drop blockSize d)
+
+-- bytes put from the address a on, each at its block and offset
+abbrev pub fromAddress : ℕ → List ℕ → List Put
+fromAddress a [] = []
+fromAddress a (v ∷ vs) = record { block = blockOf a; offset = offsetOf a; value = v } ∷ fromAddress (suc a) vs
 
 -- the memory after them
 abbrev pub puts : Memory → List Put → Memory

@@ -6,16 +6,17 @@ use Rattle.memory.specs.Memory.{Memory}
 use Rattle.tag.specs.declared.state.Field.{Field}
 use Rattle.tag.specs.declared.state.Field.the-variants.{Off, On}
 use Rattle.tag.specs.declared.state.Tag.{Tag}
-use Rattle.tag.specs.Model.{Copy, Model}
+use Rattle.type_b_service.specs.View.{phaseOf}
+use Rattle.tag.specs.Model.{Copy, Powered, Model}
 use Rattle.tag.specs.History.{Event}
 use Rattle.tag.specs.Steps.{Step, fresh}
 
-abbrev pub copyIn : Field → Option Copy
-copyIn Off = None
-copyIn (On c) = Some (record { identity = c .identity .bytes; protection = c .protection .bytes })
+abbrev pub powerIn : Field → Option Powered
+powerIn Off = None
+powerIn (On c state) = Some (record { copy = record { identity = c .identity .bytes; protection = c .protection .bytes }; phase = phaseOf state })
 
 abbrev pub view : {S : Type 0} → (S → Memory) → Tag S → Model
-view blocks t = record { memory = blocks (t .store); copy = copyIn (t .field) }
+view blocks t = record { memory = blocks (t .store); power = powerIn (t .field); performed = t .performed }
 
 -- a tag made over a store
 abbrev pub Made : {S : Type 0} → (S → Memory) → S → Tag S → Type 0

@@ -1,4 +1,4 @@
-ghost use Rattle.tag.specs.History.{bench-read, bench-write, bench-writable};
+ghost use Rattle.tag.specs.History.{bench-read, bench-write, bench-writable, bench-performed};
 ghost use Rattle.tag.specs.View.{Called};
 use crate::state::Field;
 use crate::state::Tag;
@@ -48,7 +48,13 @@ impl<S: Store> Tag<S> {
                 count: 0,
                 lowest: None,
             },
-            Field::On(copy) => copy.protection.writable(),
+            Field::On { copy, .. } => copy.protection.writable(),
         }
+    }
+    // How many commands of Type B the tag has performed; after the last number of 64 bits it goes on from 0.
+    pub fn bench_performed(&self) -> u64
+        ensures { λ r. ⌜ Called blocks (now (self .entry)) (bench-performed r) (now (self .entry)) ⌝ }
+    {
+        self.performed
     }
 }

@@ -7,6 +7,7 @@ use memory::Store;
 use system::Identity;
 use system::Protection;
 use system::SystemCopy;
+use type_b_service::State;
 
 impl<S: Store> Tag<S> {
     // A tag over the store, the field off.
@@ -16,6 +17,7 @@ impl<S: Store> Tag<S> {
         Tag {
             store,
             field: Field::Off,
+            performed: 0,
         }
     }
 
@@ -27,12 +29,16 @@ impl<S: Store> Tag<S> {
             Field::Off => {
                 let identity = Identity::new(&self.store.read(BlockNumber::known(30)));
                 let protection = Protection::new(&self.store.read(BlockNumber::known(31)));
-                self.field = Field::On(SystemCopy {
+                let copy = SystemCopy {
                     identity,
                     protection,
-                });
+                };
+                self.field = Field::On {
+                    copy,
+                    state: State::Idle,
+                };
             }
-            Field::On(_) => {}
+            Field::On { .. } => {}
         }
     }
 

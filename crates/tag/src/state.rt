@@ -1,11 +1,12 @@
 use memory::Store;
 use system::SystemCopy;
+use type_b_service::State;
 
 // The field, and what the tag holds only while it is on.
 #[derive(Clone, Copy)]
 pub enum Field {
     Off,
-    On(SystemCopy),
+    On { copy: SystemCopy, state: State },
 }
 
 // A tag over a store of blocks.
@@ -13,4 +14,5 @@ pub enum Field {
 pub struct Tag<S: Store> {
     pub(crate) store: S,
     pub(crate) field: Field,
+    pub(crate) performed: u64,
 }
