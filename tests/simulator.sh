@@ -34,7 +34,7 @@ done
 same 'empty input' 0 '' </dev/null
 same 'no newline at the end' 0 $'0 none\n' < <(printf 'writable')
 same 'CR and spaces' 0 $'ok\n24 from 0\n' < <(printf '  field on  \r\nwritable\r')
-same 'bytes that are no text' 0 $'error line 1: unknown command: use tag, field, jis, bench, writable or dump\n0 none\n' < <(printf '\xff\xfe\nwritable\n')
+same 'bytes that are no text' 0 $'error line 1: unknown command: use tag, field, jis, b, bench, performed, writable or dump\n0 none\n' < <(printf '\xff\xfe\nwritable\n')
 
 # An error goes on, and is told by the status only with --strict. A refusal is no error.
 wrong=$'error line 2: field wants \'on\' or \'off\'\n'

@@ -37,7 +37,7 @@ pub enum Answer {
         result: Result<Option<usize>, Refusal>,
         buffer: Vec<u8>,
     },
-    // the orders performed since the field last came on
+    // how many commands of Type B the tag has performed
     Performed {
         count: u64,
     },

@@ -88,7 +88,12 @@ fn jis_frame<S: Store>(
     Ok(Answer::Framed { result, buffer })
 }
 
-fn type_b_frame<S: Store>(heap: Global, tag: &mut Tag<S>, frame: &[u8], into: usize) -> Result<Answer, AllocError>
+fn type_b_frame<S: Store>(
+    heap: Global,
+    tag: &mut Tag<S>,
+    frame: &[u8],
+    into: usize,
+) -> Result<Answer, AllocError>
     ensures { λ r. ⌜ Cases r (λ a. Performed blocks (now (tag .entry)) (TypeB (frame .entry) into) a (now (tag .exit))) (λ _. now (tag .exit) ≡ now (tag .entry)) ⌝ }
 {
     let mut buffer = vec![in heap; 0u8; into]?;

@@ -137,7 +137,7 @@ module _ (m : Memory) (sm : Shaped m) (h : History) (s : Model) (i : Inv m h s) 
       let k = kindOf f in
       let w = typeBReply (typeBBody (s .power) (s .memory) f) in
       let held : HoldsPower (follows x k w) (dueAfter (expected m h) (due m h) x k w) (powerAfter (s .power) (s .memory) f) =
-          subst (λ z. HoldsPower (follows x k w) (dueAfter z (due m h) x k w) (powerAfter (s .power) (s .memory) f)) (i .memory) (power-turned x (due m h) (s .memory) (s .power) f (i .session)) in
+      subst (λ z. HoldsPower (follows x k w) (dueAfter z (due m h) x k w) (powerAfter (s .power) (s .memory) f)) (i .memory) (power-turned x (due m h) (s .memory) (s .power) f (i .session)) in
       record {
         memory =
             power-remembered x (due m h) (s .memory) (s .power) f shaped (i .session)
@@ -168,7 +168,6 @@ module _ (m : Memory) (sm : Shaped m) (h : History) (s : Model) (i : Inv m h s) 
   }
   stepped (bench-write b d (Err x)) t e = same-inv m (bench-write b d (Err x) ∷ h) s t (e .1) record { memory = i .memory; rules = i .rules; identity = i .identity; session = i .session; performed = i .performed }
   stepped (bench-writable w) t e = same-inv m (bench-writable w ∷ h) s t (e .1) record { memory = i .memory; rules = i .rules; identity = i .identity; session = i .session; performed = i .performed }
-
   stepped (jis f before (Ok n) after) t e = same-inv m (jis f before (Ok n) after ∷ h) (withMemory s (jisMemory (serving (s .power)) (s .memory) f)) t (e .1) record {
     memory =
         jis-remembered (serving (s .power)) (s .memory) f (sized-serving (s .power) (i .identity)) shaped
@@ -185,7 +184,6 @@ module _ (m : Memory) (sm : Shaped m) (h : History) (s : Model) (i : Inv m h s) 
     session = i .session;
     performed = i .performed;
   }
-
   stepped (type-b f before (Ok n) after) t e = same-inv m (type-b f before (Ok n) after ∷ h) (typeBAfter s f) t (e .1)
       (type-b-inv f before after n (heard-is (typeBReply (typeBBody (s .power) (s .memory) f)) before after n (e .0 .1) (e .0 .2)))
   stepped (type-b f before (Err x) after) t e = same-inv m (type-b f before (Err x) after ∷ h) s t (e .1) record {

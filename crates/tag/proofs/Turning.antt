@@ -363,14 +363,17 @@ sent-so-far m h o q = by (front o q)
   where
     quiet : Quiet (progress h) (due m h) → (rest : List ℕ) × Front (progress h) (due m h) rest
     quiet q = (q .rest, q .front)
+
     inside : (p : Phase) → Holds (progress h) (due m h) p → (rest : List ℕ) × Front (progress h) (due m h) rest
     inside idle q = quiet q
     inside ready q = quiet q
     inside halted q = quiet q
     inside (active t) q = (t .rest, q .front)
+
     front : (o : Option Powered) → HoldsPower (progress h) (due m h) o → (rest : List ℕ) × Front (progress h) (due m h) rest
     front None q = quiet q
     front (Some p) q = inside (p .phase) q
+
     by : (rest : List ℕ) × Front (progress h) (due m h) rest → Outgoing m h
     by g = record {
       front = (g .0, g .1 .split);

@@ -51,6 +51,7 @@ impl<S: Store> Tag<S> {
             Field::On { copy, .. } => copy.protection.writable(),
         }
     }
+
     // How many commands of Type B the tag has performed; after the last number of 64 bits it goes on from 0.
     pub fn bench_performed(&self) -> u64
         ensures { λ r. ⌜ Called blocks (now (self .entry)) (bench-performed r) (now (self .entry)) ⌝ }

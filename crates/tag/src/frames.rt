@@ -72,7 +72,11 @@ impl<S: Store> Tag<S> {
 fn counted(count: u64, performed: bool) -> u64
     ensures { λ r. ⌜ r ≡ cond performed ((count + 1) % 2 ^ 64) count ⌝ }
 {
-    if performed { count.wrapping_add(1) } else { count }
+    if performed {
+        count.wrapping_add(1)
+    } else {
+        count
+    }
 }
 
 // Silence stays silence.

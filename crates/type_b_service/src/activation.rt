@@ -77,7 +77,13 @@ fn write_atqb(identity: &Identity, reply: &mut Reply)
 }
 
 // 05.
-pub(crate) fn request(identity: &Identity, state: State, afi: u8, param: u8, reply: &mut Reply) -> State
+pub(crate) fn request(
+    identity: &Identity,
+    state: State,
+    afi: u8,
+    param: u8,
+    reply: &mut Reply,
+) -> State
     requires { ⌜ held (now reply) ≡ [] ⌝ }
     ensures { λ r. ⌜ Turned (requested (now (identity .entry) .bytes) afi param (phaseOf state)) r (held (now (reply .exit))) ⌝ }
 {
@@ -89,7 +95,13 @@ pub(crate) fn request(identity: &Identity, state: State, afi: u8, param: u8, rep
 }
 
 // 1D: the session begins.
-pub(crate) fn attrib(identity: &Identity, state: State, pupi: &[u8], size: FrameSize, reply: &mut Reply) -> State
+pub(crate) fn attrib(
+    identity: &Identity,
+    state: State,
+    pupi: &[u8],
+    size: FrameSize,
+    reply: &mut Reply,
+) -> State
     requires { ⌜ held (now reply) ≡ [] ⌝ }
     ensures { λ r. ⌜ Turned (inReady (chosen (now (identity .entry) .bytes) (now (pupi .entry)) size) (phaseOf state)) r (held (now (reply .exit))) ⌝ }
 {

@@ -66,7 +66,12 @@ pub(crate) fn take_nak(state: State, number: bool, reply: &mut Reply) -> State
 }
 
 // Performs the command that an unchained I-block completes: a part of the frame, or of the chain.
-fn answer_to<'a, S: Store>(store: &mut S, protection: &Protection, session: &'a Session, inf: &'a [u8]) -> Answer
+fn answer_to<'a, S: Store>(
+    store: &mut S,
+    protection: &Protection,
+    session: &'a Session,
+    inf: &'a [u8],
+) -> Answer
     ensures answer { λ r. ⌜ whole r ≡ answerTo (now (protection .entry) .bytes) (blocks (now (store .entry))) (pickedOrder (model (now (session .entry)) .chain) (now (inf .entry))) ⌝ }
     ensures memory { λ _. ⌜ blocks (now (store .exit)) ≡ memoryAfter (now (protection .entry) .bytes) (blocks (now (store .entry))) (pickedOrder (model (now (session .entry)) .chain) (now (inf .entry))) ⌝ }
 {
@@ -77,7 +82,13 @@ fn answer_to<'a, S: Store>(store: &mut S, protection: &Protection, session: &'a 
 }
 
 // An unchained I-block: the last piece of a command, which is performed.
-pub(crate) fn take_last<S: Store>(store: &mut S, protection: &Protection, state: State, inf: &[u8], reply: &mut Reply) -> State
+pub(crate) fn take_last<S: Store>(
+    store: &mut S,
+    protection: &Protection,
+    state: State,
+    inf: &[u8],
+    reply: &mut Reply,
+) -> State
     requires { ⌜ held (now reply) ≡ [] ⌝ }
     ensures turned { λ r. ⌜ Turned (turn [] (now (protection .entry) .bytes) (blocks (now (store .entry))) (phaseOf state) (information false (now (inf .entry)))) r (held (now (reply .exit))) ⌝ }
     ensures memory { λ _. ⌜ blocks (now (store .exit)) ≡ effect (now (protection .entry) .bytes) (blocks (now (store .entry))) (ordered (phaseOf state) (now (inf .entry))) ⌝ }

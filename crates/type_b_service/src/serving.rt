@@ -22,7 +22,13 @@ use type_b::Frame;
 use type_b::taken_apart;
 
 // Serves a frame. The reply then holds the body of the answer, or nothing for silence.
-pub fn serve<S: Store>(store: &mut S, copy: &SystemCopy, state: State, frame: &[u8], reply: &mut Reply) -> Served
+pub fn serve<S: Store>(
+    store: &mut S,
+    copy: &SystemCopy,
+    state: State,
+    frame: &[u8],
+    reply: &mut Reply,
+) -> Served
     requires { ⌜ held (now reply) ≡ [] ⌝ }
     ensures turned { λ r. ⌜ Turned (turn (now (copy .entry) .identity .bytes) (now (copy .entry) .protection .bytes) (blocks (now (store .entry))) (phaseOf state) (kindOf (now (frame .entry)))) (r .state) (held (now (reply .exit))) ⌝ }
     ensures performed { λ r. ⌜ r .performed ≡ isSome (completed (phaseOf state) (kindOf (now (frame .entry)))) ⌝ }
@@ -45,7 +51,13 @@ fn completes(state: &State, frame: Frame<'_>) -> bool
     }
 }
 
-fn by_kind<S: Store>(store: &mut S, copy: &SystemCopy, state: State, frame: Frame<'_>, reply: &mut Reply) -> State
+fn by_kind<S: Store>(
+    store: &mut S,
+    copy: &SystemCopy,
+    state: State,
+    frame: Frame<'_>,
+    reply: &mut Reply,
+) -> State
     requires { ⌜ held (now reply) ≡ [] ⌝ }
     ensures turned { λ r. ⌜ Turned (turn (now (copy .entry) .identity .bytes) (now (copy .entry) .protection .bytes) (blocks (now (store .entry))) (phaseOf state) (kind (frame .entry))) r (held (now (reply .exit))) ⌝ }
     ensures memory { λ _. ⌜ blocks (now (store .exit)) ≡ effect (now (copy .entry) .protection .bytes) (blocks (now (store .entry))) (completed (phaseOf state) (kind (frame .entry))) ⌝ }
