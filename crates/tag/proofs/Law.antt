@@ -28,14 +28,14 @@ use Rattle.tag.specs.History.{Event, field-on, field-off, bench-read, bench-wr
 use Rattle.tag.specs.Steps.{Step, fresh, kept, raised, dropped, withMemory, Shown, protectionOf, unlessActive, serving, jisPayload, jisMemory, jisReply, typeBBody, typeBReply, powerAfter, typeBAfter}
 use Rattle.tag.specs.View.{view}
 use Rattle.tag.specs.Puts.{inBlock, puts}
-use Rattle.tag.specs.Account.{expected, cameOn, ruling, Stands, identifierIn, normal, wroteListed, readable, writable, Progress, progress, ended, follows, completes, wroteRange, readAccepted, due, dueAfter}
+use Rattle.tag.specs.Account.{expected, cameOn, ruling, Stands, identifierIn, normal, wroteListed, readable, writable, Progress, progress, ended, follows, completes, wroteRange, readAccepted, updateAccepted, due, dueAfter}
 use Rattle.tag.specs.Runs.{Ran, made, call, Moment, at-last, earlier, FairJis, FairTypeB, Outgoing, Fair, Kept}
 use Rattle.tag.proofs.Placing.{shaped-expected, put-block, stands}
 use Rattle.tag.proofs.Listing.{heard-is, wrote-nothing}
 use Rattle.tag.proofs.Replies.{jis-memory, jis-open, jis-gives, jis-free}
 use Rattle.tag.proofs.Counting.{countBy, count, count-is, none-counted}
 use Rattle.tag.proofs.Sessions.{Front, Fits, Quiet, Holds, HoldsPower, unanswered-read}
-use Rattle.tag.proofs.Turning.{SizedPower, silence-writes, let-off, power-turned, power-remembered, power-counted, same-rules, same-size, power-spared, power-open, power-repeats, power-silent, sent-so-far}
+use Rattle.tag.proofs.Turning.{SizedPower, silence-writes, let-off, power-turned, power-remembered, power-counted, same-rules, same-size, power-spared, power-open, power-free, power-repeats, power-silent, sent-so-far}
 
 -- a copy's block 30 is a whole block
 abbrev Sized : Option Copy → Type 0
@@ -232,12 +232,15 @@ module _ (m : Memory) (sm : Shaped m) (h : History) (s : Model) (i : Inv m h s) 
             ∙ power-spared (s .power) (s .memory) f b shaped (ap (λ z. writable z b) (i .rules) ∙ w) ∙ ap (λ z. blockAt z b) (i .memory);
         open-only = λ a k is acc b low high.
             ap (λ z. readable z b) (sym (i .rules)) ∙ power-open (progress h) (due m h) (s .memory) (s .power) f (i .session) a k is (subst (λ z. readAccepted k z ≡ true) hd acc) b low high;
+        free-only = λ a d is acc b low high.
+            ap (λ z. writable z b) (sym (i .rules)) ∙ power-free (progress h) (due m h) (s .memory) (s .power) f (i .session) a d is (subst (λ z. updateAccepted z ≡ true) hd acc) b low high;
         repeats = λ big k rb is. hd ∙ power-repeats (progress h) (due m h) (s .memory) (s .power) f (i .session) k rb is;
         unpowered = λ o. hd ∙ power-silent (s .power) (s .memory) f (i .rules ∙ o);
       }
   fair-type-b f before (Err x) after t e = record {
     spares = λ b w. ap (λ z. blockAt z b) (sym (silence-writes (expected m h) (completes (progress h) (kindOf f))));
     open-only = λ a k is acc b low high. absurd (both-ways _ (unanswered-read k) acc);
+    free-only = λ a d is acc b low high. absurd (both-ways false refl acc);
     repeats = λ big k rb is. absurd (omega (arith, e .0 .0));
     unpowered = λ o. refl;
   }

@@ -29,7 +29,7 @@ use Rattle.type_b_service.specs.Turns.{Phase, idle, ready, halted, active}
 use Rattle.tag.specs.Model.{Powered}
 use Rattle.tag.specs.Steps.{typeBReply}
 use Rattle.tag.specs.Puts.{fromAddress, puts}
-use Rattle.tag.specs.Account.{Progress, infIn, chainedIn, wroteRange, fixedAnswer, readAccepted}
+use Rattle.tag.specs.Account.{Progress, infIn, chainedIn, wroteRange, fixedAnswer, readAccepted, updateAccepted}
 
 -- what is left to send, and that none is once a piece said that no more follows
 pub record Front (x : Progress) (due rest : List ℕ) : Type 0 where
@@ -134,6 +134,13 @@ module _ (x : List ℕ) (m : Memory) (size : FrameSize) (n : Bool) where
     where
       go : (t : Bool) → readAccepted k (firstPiece size n (cond t (statusBytes NotAllowed) (bytesFrom m a k ++ statusBytes Normal))) ≡ true → t ≡ false
       go true f = absurd (both-ways _ (refused-read k some) f)
+      go false f = refl
+
+  pub free-update : (a : ℕ) (d : List ℕ) → updateAccepted (First (update a d)) ≡ true → touches (barred Write x) a (length d) ≡ false
+  free-update a d e = go (touches (barred Write x) a (length d)) e
+    where
+      go : (t : Bool) → updateAccepted (firstPiece size n (cond t (statusBytes NotAllowed) (statusBytes Normal))) ≡ true → t ≡ false
+      go true f = absurd (both-ways _ (ap (λ z. sameBytes z (statusBytes Normal)) (status-whole size n (statusBytes NotAllowed) refl)) f)
       go false f = refl
 
   read-fixed : (t : Bool) (k : ℕ) (d : List ℕ) → 1 ≤ k → let a = cond t (statusBytes NotAllowed) (d ++ statusBytes Normal) in

@@ -36,10 +36,10 @@ use Rattle.tag.specs.History.{History}
 use Rattle.tag.specs.Model.{Copy, Powered}
 use Rattle.tag.specs.Steps.{protectionOf, typeBBody, typeBReply, completedBy, powerAfter, memoryBy}
 use Rattle.tag.specs.Puts.{puts}
-use Rattle.tag.specs.Account.{Progress, progress, infIn, chainedIn, ended, follows, completes, wroteRange, readAccepted, readable, writable, due, dueAfter}
+use Rattle.tag.specs.Account.{Progress, progress, infIn, chainedIn, ended, follows, completes, wroteRange, readAccepted, updateAccepted, readable, writable, due, dueAfter}
 use Rattle.tag.specs.Runs.{RBlock, r-ack, r-nak, Outgoing}
 use Rattle.tag.proofs.Counting.{countBy, none-counted}
-use Rattle.tag.proofs.Sessions.{Front, Fits, Quiet, Holds, HoldsPower, firstPiece, inf-first, none-left, fixed-is, wrote-is, open-read, unanswered-read}
+use Rattle.tag.proofs.Sessions.{Front, Fits, Quiet, Holds, HoldsPower, firstPiece, inf-first, none-left, fixed-is, wrote-is, open-read, free-update, unanswered-read}
 
 nothing-written : (c : Option Asked) → wroteRange c [] ≡ []
 nothing-written None = refl
@@ -254,33 +254,35 @@ module _ (x : Progress) (d : List ℕ) (m : Memory) where
         ∙ again-said p n (λ t b. cond b (lastBody t) (cond (ltb 0 (length (t .rest))) (lastBody (nextSent t)) [])) h e (λ t. refl)
     repeated p n r-nak h e = again-said p n (λ t b. cond b (lastBody t) (ackPcb (t .number) ∷ [])) h e (λ t. refl)
 
-    -- an accepted B0 takes no block that frames may not read
+    -- what follows of a command that was accepted, by its reply
     some-same : (a b : Asked) → _≡_ {A = Option Asked} (Some a) (Some b) → a ≡ b
     some-same a b e = cc
 
     none-some : (a : Asked) → _≡_ {A = Option Asked} None (Some a) → ⊥
     none-some a e = let z : _≡_ {A = ℕ} 0 1 = cc in omega arith
 
-    open-at : (p : Phase) (inf : List ℕ) → Holds x d p → (a k : ℕ) → askedBy (x .pieces ++ inf) ≡ read a k →
-        readAccepted k (typeBReply (turn identity prot m p (information false inf) .said)) ≡ true → touches (barred Read prot) a k ≡ false
-    open-at idle inf h a k e acc = absurd (both-ways _ (unanswered-read k) acc)
-    open-at ready inf h a k e acc = absurd (both-ways _ (unanswered-read k) acc)
-    open-at halted inf h a k e acc = absurd (both-ways _ (unanswered-read k) acc)
-    open-at (active t) inf h a k e acc =
-        let eo : commanded (more (t .chain) inf) ≡ read a k = command-is x d t h inf ∙ e in
-        let w : Within (read a k) = subst Within e (asked-within (x .pieces ++ inf)) in
-        open-read prot m (t .size) (not (t .number)) a k (w .0) (subst (λ z. readAccepted k (firstPiece (t .size) (not (t .number)) (answerTo prot m z)) ≡ true) eo acc)
+    accepted-at : (o : Asked) (ok : List ℕ → Bool) (C : Type 0) → ok [] ≡ false →
+        ((t : SessionModel) → Within o → ok (firstPiece (t .size) (not (t .number)) (answerTo prot m o)) ≡ true → C) →
+        (p : Phase) (inf : List ℕ) → Holds x d p → askedBy (x .pieces ++ inf) ≡ o → ok (typeBReply (turn identity prot m p (information false inf) .said)) ≡ true → C
+    accepted-at o ok C empty then idle inf h e acc = absurd (both-ways _ empty acc)
+    accepted-at o ok C empty then ready inf h e acc = absurd (both-ways _ empty acc)
+    accepted-at o ok C empty then halted inf h e acc = absurd (both-ways _ empty acc)
+    accepted-at o ok C empty then (active t) inf h e acc =
+        let eo : commanded (more (t .chain) inf) ≡ o = command-is x d t h inf ∙ e in
+        then t (subst Within e (asked-within (x .pieces ++ inf))) (subst (λ z. ok (firstPiece (t .size) (not (t .number)) (answerTo prot m z)) ≡ true) eo acc)
 
-    opens : (p : Phase) (k : Kind) → Holds x d p → (a n : ℕ) → completes x k ≡ Some (read a n) → readAccepted n (typeBReply (turn identity prot m p k .said)) ≡ true → touches (barred Read prot) a n ≡ false
-    opens p (request asked param) h a n e acc = absurd (none-some (read a n) e)
-    opens p (attrib pupi size) h a n e acc = absurd (none-some (read a n) e)
-    opens p (halt pupi) h a n e acc = absurd (none-some (read a n) e)
-    opens p deselect h a n e acc = absurd (none-some (read a n) e)
-    opens p (information true inf) h a n e acc = absurd (none-some (read a n) e)
-    opens p (information false inf) h a n e acc = open-at p inf h a n (some-same _ (read a n) e) acc
-    opens p (ack j) h a n e acc = absurd (none-some (read a n) e)
-    opens p (nak j) h a n e acc = absurd (none-some (read a n) e)
-    opens p unknown h a n e acc = absurd (none-some (read a n) e)
+    accepted : (o : Asked) (ok : List ℕ → Bool) (C : Type 0) → ok [] ≡ false →
+        ((t : SessionModel) → Within o → ok (firstPiece (t .size) (not (t .number)) (answerTo prot m o)) ≡ true → C) →
+        (p : Phase) (k : Kind) → Holds x d p → completes x k ≡ Some o → ok (typeBReply (turn identity prot m p k .said)) ≡ true → C
+    accepted o ok C empty then p (request asked param) h e acc = absurd (none-some o e)
+    accepted o ok C empty then p (attrib pupi size) h e acc = absurd (none-some o e)
+    accepted o ok C empty then p (halt pupi) h e acc = absurd (none-some o e)
+    accepted o ok C empty then p deselect h e acc = absurd (none-some o e)
+    accepted o ok C empty then p (information true inf) h e acc = absurd (none-some o e)
+    accepted o ok C empty then p (information false inf) h e acc = accepted-at o ok C empty then p inf h (some-same _ o e) acc
+    accepted o ok C empty then p (ack j) h e acc = absurd (none-some o e)
+    accepted o ok C empty then p (nak j) h e acc = absurd (none-some o e)
+    accepted o ok C empty then p unknown h e acc = absurd (none-some o e)
 
 -- the same of a tag, with the field off too
 
@@ -319,19 +321,38 @@ pub power-repeats : (x : Progress) (d : List ℕ) (m : Memory) (o : Option Power
 power-repeats x d m None f h n rb e = ap (λ z. cond z (x .newest) []) (sym (h .active))
 power-repeats x d m (Some p) f h n rb e = repeated x d m (p .copy .identity) (p .copy .protection) (p .phase) n rb h e
 
+-- no block of a range passes a test that none passes
+each-block : (p : ℕ → Bool) (a n b : ℕ) → touches p a n ≡ false → blockOf a ≤ b → b ≤ blockOf (a + n - 1) → p b ≡ false
+each-block p a n b free low high = go (p b) refl
+  where
+    go : (t : Bool) → p b ≡ t → t ≡ false
+    go true e =
+        let i : b - a / 16 < (a + n - 1) / 16 - a / 16 + 1 = omega arith in
+        let same : a / 16 + (b - a / 16) ≡ b = omega arith in
+        absurd (both-ways _ free (found p (a / 16) (b - a / 16) _ i (ap p same ∙ e)))
+    go false e = refl
+
+allowed : (t : Bool) → not t ≡ false → t ≡ true
+allowed true e = refl
+allowed false e = absurd (both-ways true e refl)
+
 pub power-open : (x : Progress) (d : List ℕ) (m : Memory) (o : Option Powered) (f : List ℕ) → HoldsPower x d o → (a n : ℕ) → completes x (kindOf f) ≡ Some (read a n) →
     readAccepted n (typeBReply (typeBBody o m f)) ≡ true → (b : ℕ) → blockOf a ≤ b → b ≤ blockOf (a + n - 1) → readable (protectionOf o) b ≡ true
 power-open x d m None f h a n e acc b low high = absurd (both-ways _ (unanswered-read n) acc)
 power-open x d m (Some p) f h a n e acc b low high =
-    let free = opens x d m (p .copy .identity) (p .copy .protection) (p .phase) (kindOf f) h a n e acc in
-    go (mayRead (p .copy .protection) b) refl free
-  where
-    go : (t : Bool) → mayRead (p .copy .protection) b ≡ t → touches (barred Read (p .copy .protection)) a n ≡ false → t ≡ true
-    go true e free = refl
-    go false e free =
-        let i : b - a / 16 < (a + n - 1) / 16 - a / 16 + 1 = omega arith in
-        let same : a / 16 + (b - a / 16) ≡ b = omega arith in
-        absurd (both-ways _ free (found (barred Read (p .copy .protection)) (a / 16) (b - a / 16) _ i (ap (λ z. not (mayRead (p .copy .protection) z)) same ∙ ap not e)))
+    let prot = p .copy .protection in
+    let free = accepted x d m (p .copy .identity) prot (read a n) (readAccepted n) (touches (barred Read prot) a n ≡ false) (unanswered-read n)
+    (λ t w y. open-read prot m (t .size) (not (t .number)) a n (w .0) y) (p .phase) (kindOf f) h e acc in
+    allowed (mayRead prot b) (each-block (barred Read prot) a n b free low high)
+
+pub power-free : (x : Progress) (d : List ℕ) (m : Memory) (o : Option Powered) (f : List ℕ) → HoldsPower x d o → (a : ℕ) (bytes : List ℕ) → completes x (kindOf f) ≡ Some (update a bytes) →
+    updateAccepted (typeBReply (typeBBody o m f)) ≡ true → (b : ℕ) → blockOf a ≤ b → b ≤ blockOf (a + length bytes - 1) → writable (protectionOf o) b ≡ true
+power-free x d m None f h a bytes e acc b low high = absurd (both-ways false refl acc)
+power-free x d m (Some p) f h a bytes e acc b low high =
+    let prot = p .copy .protection in
+    let free = accepted x d m (p .copy .identity) prot (update a bytes) updateAccepted (touches (barred Write prot) a (length bytes) ≡ false) refl
+    (λ t w y. free-update prot m (t .size) (not (t .number)) a bytes y) (p .phase) (kindOf f) h e acc in
+    allowed (mayWrite prot b) (each-block (barred Write prot) a (length bytes) b free low high)
 
 -- what a frame may not write it does not write
 other-block : (m : Memory) (a : ℕ) (d : List ℕ) (b : ℕ) → ((k : ℕ) → a ≤ k → k < a + length d → b ≡ blockOf k → ⊥) → blockAt (withBytes m a d) b ≡ blockAt m b

@@ -115,12 +115,16 @@ askedOf (Some c) = Some (askedBy c)
 abbrev pub completes : Progress → Kind → Option command.Asked
 completes x k = askedOf (completing x k)
 
--- a D6 answered 90 00 puts its bytes from its address on
+-- a D6 is accepted if it is answered 90 00
+abbrev pub updateAccepted : List ℕ → Bool
+updateAccepted reply = sameBytes (infIn reply) (statusBytes status.Normal)
+
+-- an accepted D6 puts its bytes from its address on
 abbrev pub wroteRange : Option command.Asked → List ℕ → List Put
 wroteRange None reply = []
 wroteRange (Some (command.answered s)) reply = []
 wroteRange (Some (command.read a n)) reply = []
-wroteRange (Some (command.update a d)) reply = cond (sameBytes (infIn reply) (statusBytes status.Normal)) (fromAddress a d) []
+wroteRange (Some (command.update a d)) reply = cond (updateAccepted reply) (fromAddress a d) []
 
 -- the accepted write that a call is, after the history h, as the bytes it puts at their places, in order: a bench write that is not
 -- refused puts its 16 bytes into its block, a WRITE that is answered 00 00 its data into its blocks, the last piece of a D6 that is answered 90 00 its bytes

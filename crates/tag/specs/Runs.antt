@@ -21,7 +21,7 @@ use Rattle.tag.specs.declared.state.Tag.{Tag}
 use Rattle.tag.specs.History.{Event, field-on, field-off, bench-read, bench-write, bench-writable, jis, type-b, bench-performed, History, heard}
 use Rattle.tag.specs.Steps.{Shown, replyRoom}
 use Rattle.tag.specs.View.{Made, Called}
-use Rattle.tag.specs.Account.{expected, Stands, ruling, identifierIn, normal, readable, writable, chainedIn, Progress, progress, completes, readAccepted, due, performances}
+use Rattle.tag.specs.Account.{expected, Stands, ruling, identifierIn, normal, readable, writable, chainedIn, Progress, progress, completes, readAccepted, updateAccepted, due, performances}
 
 -- the tag t came from a tag made over the store by the calls of the history, and by nothing else
 pub data Ran {S : Type 0} (blocks : S → Memory) (store : S) : History → Tag S → Type 0 where
@@ -63,6 +63,9 @@ pub record FairTypeB (m : Memory) (g : History) (f before : List ℕ) (r : Resul
   -- an accepted B0 takes no byte from a block that frames may not read
   pub open-only : (a n : ℕ) → completes (progress g) (kindOf f) ≡ Some (command.read a n) → readAccepted n (heard r after) ≡ true →
       (b : ℕ) → blockOf a ≤ b → b ≤ blockOf (a + n - 1) → readable (ruling m g) b ≡ true
+  -- and an accepted D6 puts none into a block that frames may not write
+  pub free-only : (a : ℕ) (d : List ℕ) → completes (progress g) (kindOf f) ≡ Some (command.update a d) → updateAccepted (heard r after) ≡ true →
+      (b : ℕ) → blockOf a ≤ b → b ≤ blockOf (a + length d - 1) → writable (ruling m g) b ≡ true
   -- an R-block with the tag's number is answered by the block sent before, in ACTIVE, and else by silence
   pub repeats : replyRoom ≤ length before → (n : Bool) → RBlock n (kindOf f) → sameNumber n (progress g .number) ≡ true → heard r after ≡ cond (progress g .active) (progress g .newest) []
   -- with the field off every frame meets silence
