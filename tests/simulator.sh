@@ -51,13 +51,15 @@ done
 
 # Each line is answered before the next is sent.
 coproc "$simulator"
+# kept, since the shell forgets them once the program has ended
+pid=$COPROC_PID to=${COPROC[1]} from=${COPROC[0]}
 for _ in 1 2 3; do
-    printf 'writable\n' >&"${COPROC[1]}"
-    IFS= read -r -t 20 answer <&"${COPROC[0]}" || fail 'no answer through a pipe'
+    printf 'writable\n' >&"$to"
+    IFS= read -r -t 20 answer <&"$from" || fail 'no answer through a pipe'
     [ "$answer" = '0 none' ] || fail "through a pipe: $answer"
 done
-exec {COPROC[1]}>&-
-wait "$COPROC_PID" || fail 'status after a pipe'
+exec {to}>&-
+wait "$pid" || fail 'status after a pipe'
 count=$((count + 1))
 
 echo "simulator.sh: $count runs as expected"
