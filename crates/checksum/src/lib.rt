@@ -1,5 +1,6 @@
 // The two frame checksums of contactless tags: JIS X 6319-4, and CRC_B of ISO/IEC 14443 Type B.
 // Both divide by x^16 + x^12 + x^5 + 1. They differ in the order of the bits, and so in the way the register moves.
+#![tactic(auto)]
 
 ghost use Rattle.std.specs.Prelude.{◌≡◌, fold};
 ghost use Rattle.checksum.specs.Checksum.{jis_checksum, crc_b, Residues, jis_register, crc_b_register, high_first, low_first, step_up, step_down};

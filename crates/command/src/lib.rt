@@ -1,4 +1,6 @@
 //! The command layer: a command is taken apart into an order, and performed on any store under the protection of block 31.
+#![tactic(auto)]
+
 mod access;
 mod answer;
 mod answering;

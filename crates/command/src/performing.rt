@@ -14,8 +14,8 @@ use system::Protection;
 
 // Performs a command on the store, and says what it answers.
 pub fn perform<S: Store>(store: &mut S, protection: &Protection, command: &[u8]) -> Answer
-    ensures answer { whole result ≡ answer_to protection.now.bytes (blocks store.old) (asked_by command.now) }
-    ensures memory { blocks store.new ≡ memory_after protection.now.bytes (blocks store.old) (asked_by command.now) }
+    ensures answer { whole result ≡ answer_to protection.now.bytes (S.blocks store.old) (asked_by command.now) }
+    ensures memory { S.blocks store.new ≡ memory_after protection.now.bytes (S.blocks store.old) (asked_by command.now) }
 {
     match parse(command) {
         Order::Answered(status) => Answer::of_status(status),
@@ -29,7 +29,7 @@ pub fn perform<S: Store>(store: &mut S, protection: &Protection, command: &[u8])
 // `parse` lets only ranges through that lie in the memory, so here and below no address and no range is refused.
 fn read_binary<S: Store>(store: &S, protection: &Protection, start: u16, count: u8) -> Answer
     requires { Within (read start count) }
-    ensures { whole result ≡ answer_to protection.now.bytes (blocks store.now) (read start count) }
+    ensures { whole result ≡ answer_to protection.now.bytes (S.blocks store.now) (read start count) }
 {
     let Some(start) = Address::new(start) else {
         return Answer::of_status(Status::WrongParameters);
@@ -44,7 +44,7 @@ fn read_binary<S: Store>(store: &S, protection: &Protection, start: u16, count: 
 fn data_from<S: Store>(store: &S, start: Address, count: usize) -> Answer
     requires few { count ≤ 251 }
     requires within { start.at + count ≤ memory_size }
-    ensures { whole result ≡ bytes_from (blocks store.now) start.at count ++ status_bytes Normal }
+    ensures { whole result ≡ bytes_from (S.blocks store.now) start.at count ++ status_bytes Normal }
 {
     let mut data = [0; 256];
     match read_bytes(store, start, &mut data[0..count]) {
@@ -60,8 +60,8 @@ fn update_binary<S: Store>(
     data: &[u8],
 ) -> Status
     requires { Within (update start «data».now) }
-    ensures answer { status_bytes result ≡ answer_to protection.now.bytes (blocks store.old) (update start «data».now) }
-    ensures memory { blocks store.new ≡ memory_after protection.now.bytes (blocks store.old) (update start «data».now) }
+    ensures answer { status_bytes result ≡ answer_to protection.now.bytes (S.blocks store.old) (update start «data».now) }
+    ensures memory { S.blocks store.new ≡ memory_after protection.now.bytes (S.blocks store.old) (update start «data».now) }
 {
     let Some(start) = Address::new(start) else {
         return Status::WrongParameters;

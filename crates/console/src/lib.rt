@@ -1,4 +1,6 @@
 //! What the lines of a script do: a tag over one of the two stores, made, and called.
+#![tactic(auto)]
+
 mod device;
 mod making;
 mod obeying;

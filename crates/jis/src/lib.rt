@@ -1,4 +1,6 @@
 //! JIS X 6319-4: a command's frame is taken apart into its parts or a fault, and the payloads of the replies are put together.
+#![tactic(auto)]
+
 mod answers;
 mod blocks;
 mod bytes;

@@ -1,5 +1,6 @@
 //! Laws of JIS X 6319-4 frames: what is put together is taken apart to the same parts.
 //! So the rules by which a frame is taken apart are not only the code's again.
+#![tactic(auto)]
 
 ghost use Rattle.jis_laws.specs.Laws.{AnswersReturn, CommandsReturn, ForeignSilent, FramesDiffer, NumbersReturn};
 

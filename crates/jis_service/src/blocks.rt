@@ -40,7 +40,7 @@ pub(crate) fn may_write_all(protection: &Protection, list: Blocks<'_>) -> bool
 // Adds the bytes of each listed block to the reply.
 pub(crate) fn push_blocks<S: Store>(store: &S, list: Blocks<'_>, reply: &mut Reply)
     requires { length (held reply.old) + 16 * length (numbers_left list) ≤ 256 }
-    ensures items { held reply.new ≡ held reply.old ++ flat_map (λ block. block) (map (block_at (blocks store.now)) (numbers_left list.entry)) }
+    ensures items { held reply.new ≡ held reply.old ++ flat_map (λ block. block) (map (block_at (S.blocks store.now)) (numbers_left list.entry)) }
     ensures len { length (held reply.new) ≡ length (held reply.old) + 16 * length (numbers_left list.entry) }
 {
     let mut list = list;
@@ -53,7 +53,7 @@ pub(crate) fn push_blocks<S: Store>(store: &S, list: Blocks<'_>, reply: &mut Rep
 // Writes each listed block, in order, 16 bytes of the data each.
 pub(crate) fn write_blocks<S: Store>(store: &mut S, list: Blocks<'_>, data: &[u8])
     requires { length «data».now ≡ 16 * length (numbers_left list) }
-    ensures { blocks store.new ≡ written_in (blocks store.old) (numbers_left list.entry) «data».now }
+    ensures { S.blocks store.new ≡ written_in (S.blocks store.old) (numbers_left list.entry) «data».now }
 {
     let mut list = list;
     let mut rest = data;

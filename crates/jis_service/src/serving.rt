@@ -15,8 +15,8 @@ use system::{Identity, SystemCopy};
 // Serves a frame: the reply holds the payload of the answer, or nothing for silence.
 pub fn serve<S: Store>(store: &mut S, copy: &SystemCopy, frame: &[u8], reply: &mut Reply)
     requires { held reply.old ≡ [] }
-    ensures said { held reply.new ≡ reply_payload copy.now.identity.bytes copy.now.protection.bytes (blocks store.old) frame.now }
-    ensures memory { blocks store.new ≡ memory_after copy.now.identity.bytes copy.now.protection.bytes (blocks store.old) frame.now }
+    ensures said { held reply.new ≡ reply_payload copy.now.identity.bytes copy.now.protection.bytes (S.blocks store.old) frame.now }
+    ensures memory { S.blocks store.new ≡ memory_after copy.now.identity.bytes copy.now.protection.bytes (S.blocks store.old) frame.now }
     ensures room { length (held reply.new) ≤ 252 }
 {
     match taken_apart(frame, copy.identity.idm()) {
@@ -85,7 +85,7 @@ fn serve_read<S: Store>(
     requires empty { held reply.old ≡ [] }
     requires all { length (numbers_left list) ≡ count }
     requires few { count ≤ 15 }
-    ensures said { held reply.new ≡ read_for copy.now.identity.bytes copy.now.protection.bytes (blocks store.now) (numbers_left list.entry) }
+    ensures said { held reply.new ≡ read_for copy.now.identity.bytes copy.now.protection.bytes (S.blocks store.now) (numbers_left list.entry) }
     ensures room { length (held reply.new) ≤ 252 }
 {
     if !may_read_all(&copy.protection, list) {
@@ -107,7 +107,7 @@ fn serve_write<S: Store>(
 )
     requires { (held reply.old ≡ []) × (length «data».now ≡ 16 * length (numbers_left list)) }
     ensures said { held reply.new ≡ write_for copy.now.identity.bytes copy.now.protection.bytes (numbers_left list.entry) }
-    ensures memory { blocks store.new ≡ written_for copy.now.protection.bytes (blocks store.old) (numbers_left list.entry) «data».now }
+    ensures memory { S.blocks store.new ≡ written_for copy.now.protection.bytes (S.blocks store.old) (numbers_left list.entry) «data».now }
     ensures room { length (held reply.new) ≤ 252 }
 {
     if !may_write_all(&copy.protection, list) {

@@ -1,4 +1,6 @@
 //! What a link to a tag is: exchanges that may go unheard, field changes that arrive, and two counts.
+#![tactic(auto)]
+
 mod air;
 mod carried;
 mod delivery;

@@ -12,7 +12,7 @@ impl<S: Store> Wire<S> {
     // A wire to the tag, nothing counted yet.
     pub(crate) fn new(tag: Tag<S>) -> Wire<S>
         ensures kept { result.tag ≡ tag }
-        ensures state { state_of blocks result ≡ unused (view blocks tag) }
+        ensures state { state_of S.blocks result ≡ unused (view S.blocks tag) }
     {
         Wire {
             tag,
@@ -39,7 +39,7 @@ impl<S: Store> Wire<S> {
         reply: &mut [u8],
         delivery: Delivery,
     ) -> Result<Option<usize>, Refusal>
-        ensures { GoneIf blocks self.old frame.now delivery result reply.old reply.new self.new }
+        ensures { GoneIf S.blocks self.old frame.now delivery result reply.old reply.new self.new }
     {
         if reply.len() < 256 {
             return Err(Refusal::ReplyBufferShort);
@@ -59,7 +59,7 @@ fn carry<S: Store>(
     delivery: Delivery,
 ) -> Option<usize>
     requires { 256 ≤ length reply.old }
-    ensures { Carried (view blocks tag.old) frame.now delivery result reply.old reply.new (view blocks tag.new) }
+    ensures { Carried (view S.blocks tag.old) frame.now delivery result reply.old reply.new (view S.blocks tag.new) }
 {
     match delivery {
         Delivery::FrameLost => None,
@@ -75,7 +75,7 @@ fn carry<S: Store>(
 // No reply of a tag is longer than its buffer has to be.
 fn hand_over<S: Store>(tag: &mut Tag<S>, frame: &[u8], reply: &mut [u8]) -> Option<usize>
     requires { length reply.old ≡ 256 }
-    ensures { Carried (view blocks tag.old) frame.now Complete result reply.old reply.new (view blocks tag.new) }
+    ensures { Carried (view S.blocks tag.old) frame.now Complete result reply.old reply.new (view S.blocks tag.new) }
 {
     match tag.type_b_frame(frame, reply) {
         Ok(heard) => heard,

@@ -1,4 +1,6 @@
 //! The two links: one that loses nothing, and one that loses what its plan says.
+#![tactic(auto)]
+
 mod carrying;
 mod lossless;
 mod plan;

@@ -18,7 +18,7 @@ pub struct Lossless<S: Store> {
 
 impl<S: Store> Lossless<S> {
     pub fn new(tag: Tag<S>) -> Lossless<S>
-        ensures { state_of blocks result.wire ≡ unused (view blocks tag) }
+        ensures { state_of S.blocks result.wire ≡ unused (view S.blocks tag) }
     {
         Lossless {
             wire: Wire::new(tag),
@@ -35,7 +35,7 @@ impl<S: Store> Lossless<S> {
 }
 
 impl<S: Store> Link for Lossless<S> {
-    ghost state = { λ l. state_of S.Store.blocks l.wire };
+    ghost state = { λ l. state_of S.blocks l.wire };
 
     ghost may = { λ _ _ x. x ≡ Complete };
 

@@ -22,7 +22,7 @@ pub struct Planned<S: Store> {
 
 impl<S: Store> Planned<S> {
     pub fn new(tag: Tag<S>, plan: Plan) -> Planned<S>
-        ensures state { state_of blocks result.wire ≡ unused (view blocks tag) }
+        ensures state { state_of S.blocks result.wire ≡ unused (view S.blocks tag) }
         ensures plan { result.plan ≡ plan }
         ensures start { result.at ≡ 0 }
     {
@@ -47,7 +47,7 @@ impl<S: Store> Planned<S> {
 }
 
 impl<S: Store> Link for Planned<S> {
-    ghost state = { λ l. state_of S.Store.blocks l.wire };
+    ghost state = { λ l. state_of S.blocks l.wire };
 
     ghost may = { λ l k x. x ≡ planned (bytes_of l.plan) (l.at + k) };
 

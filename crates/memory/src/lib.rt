@@ -1,4 +1,6 @@
 //! The memory of a tag: block numbers and byte addresses, what a store of blocks means, and ranges of bytes over any store.
+#![tactic(auto)]
+
 mod address;
 mod blocks;
 mod number;

@@ -11,7 +11,7 @@ pub struct PastEnd;
 
 // Fills the buffer with the bytes from an address on.
 pub fn read_bytes<S: Store>(store: &S, start: Address, out: &mut [u8]) -> Result<(), PastEnd>
-    ensures { RangeRead (blocks store.now) start.at out.old result out.new }
+    ensures { RangeRead (S.blocks store.now) start.at out.old result out.new }
 {
     if out.len() > 512 - start.value() as usize {
         return Err(PastEnd);
@@ -22,7 +22,7 @@ pub fn read_bytes<S: Store>(store: &S, start: Address, out: &mut [u8]) -> Result
 
 // Writes the data from an address on. The bytes of its first and last block that lie outside stay.
 pub fn write_bytes<S: Store>(store: &mut S, start: Address, data: &[u8]) -> Result<(), PastEnd>
-    ensures { RangeWritten (blocks store.old) start.at «data».now result (blocks store.new) }
+    ensures { RangeWritten (S.blocks store.old) start.at «data».now result (S.blocks store.new) }
 {
     if data.len() > 512 - start.value() as usize {
         return Err(PastEnd);
@@ -34,7 +34,7 @@ pub fn write_bytes<S: Store>(store: &mut S, start: Address, data: &[u8]) -> Resu
 // Goes from block to block: what is left of the block, or of the range, at a time.
 fn fill_from<S: Store>(store: &S, start: Address, out: &mut [u8])
     requires { start.at + length out.old ≤ memory_size }
-    ensures { out.new ≡ bytes_from (blocks store.now) start.at (length out.old) }
+    ensures { out.new ≡ bytes_from (S.blocks store.now) start.at (length out.old) }
 {
     let from = start.value() as usize;
     let mut done = 0;
@@ -49,7 +49,7 @@ fn fill_from<S: Store>(store: &S, start: Address, out: &mut [u8])
 
 fn put_from<S: Store>(store: &mut S, start: Address, data: &[u8])
     requires { start.at + length «data».now ≤ memory_size }
-    ensures { blocks store.new ≡ with_bytes (blocks store.old) start.at «data».now }
+    ensures { S.blocks store.new ≡ with_bytes (S.blocks store.old) start.at «data».now }
 {
     let from = start.value() as usize;
     let mut done = 0;

@@ -1,4 +1,6 @@
 //! How answers are printed: text only, nothing is proved of it but that it is safe and ends.
+#![tactic(auto)]
+
 use memory::Refusal;
 use runner::Answer;
 use std::io;

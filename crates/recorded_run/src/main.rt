@@ -1,4 +1,6 @@
 //! Performs one list of calls on a tag over each store, and prints the answers: the law of memory holds of each run, with no premise.
+#![tactic(auto)]
+
 use memory::Store;
 use printing::show;
 use runner::{Answer, Call, run};

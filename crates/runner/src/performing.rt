@@ -14,7 +14,7 @@ pub fn perform<S: Store>(
     tag: &mut Tag<S>,
     call: &Call<'_>,
 ) -> Result<Answer, AllocError>
-    ensures { MatchResult result (λ a. Performed blocks tag.old call.now a tag.new) (λ _. tag.new ≡ tag.old) }
+    ensures { MatchResult result (λ a. Performed S.blocks tag.old call.now a tag.new) (λ _. tag.new ≡ tag.old) }
 {
     match call {
         Call::FieldOn => Ok(field_on(tag)),
@@ -29,14 +29,14 @@ pub fn perform<S: Store>(
 }
 
 fn field_on<S: Store>(tag: &mut Tag<S>) -> Answer
-    ensures { Performed blocks tag.old FieldOn result tag.new }
+    ensures { Performed S.blocks tag.old FieldOn result tag.new }
 {
     tag.field_on();
     Answer::Field
 }
 
 fn field_off<S: Store>(tag: &mut Tag<S>) -> Answer
-    ensures { Performed blocks tag.old FieldOff result tag.new }
+    ensures { Performed S.blocks tag.old FieldOff result tag.new }
 {
     tag.field_off();
     Answer::Field
@@ -48,7 +48,7 @@ fn bench_read<S: Store>(
     block: u16,
     into: usize,
 ) -> Result<Answer, AllocError>
-    ensures { IfOk result (λ a. Performed blocks tag.now (BenchRead block into) a tag.now) }
+    ensures { IfOk result (λ a. Performed S.blocks tag.now (BenchRead block into) a tag.now) }
 {
     let mut buffer = vec![in heap; 0u8; into]?;
     let result = tag.bench_read(block, buffer.as_mut_slice());
@@ -56,7 +56,7 @@ fn bench_read<S: Store>(
 }
 
 fn bench_write<S: Store>(tag: &mut Tag<S>, block: u16, bytes: &[u8]) -> Answer
-    ensures { Performed blocks tag.old (BenchWrite block bytes.entry) result tag.new }
+    ensures { Performed S.blocks tag.old (BenchWrite block bytes.entry) result tag.new }
 {
     Answer::Written {
         result: tag.bench_write(block, bytes),
@@ -64,7 +64,7 @@ fn bench_write<S: Store>(tag: &mut Tag<S>, block: u16, bytes: &[u8]) -> Answer
 }
 
 fn bench_writable<S: Store>(tag: &Tag<S>) -> Answer
-    ensures { Performed blocks tag.now BenchWritable result tag.now }
+    ensures { Performed S.blocks tag.now BenchWritable result tag.now }
 {
     Answer::Figure {
         writable: tag.bench_writable(),
@@ -77,7 +77,7 @@ fn jis_frame<S: Store>(
     frame: &[u8],
     into: usize,
 ) -> Result<Answer, AllocError>
-    ensures { MatchResult result (λ a. Performed blocks tag.old (Jis frame.entry into) a tag.new) (λ _. tag.new ≡ tag.old) }
+    ensures { MatchResult result (λ a. Performed S.blocks tag.old (Jis frame.entry into) a tag.new) (λ _. tag.new ≡ tag.old) }
 {
     let mut buffer = vec![in heap; 0u8; into]?;
     let result = tag.jis_frame(frame, buffer.as_mut_slice());
@@ -90,7 +90,7 @@ fn type_b_frame<S: Store>(
     frame: &[u8],
     into: usize,
 ) -> Result<Answer, AllocError>
-    ensures { MatchResult result (λ a. Performed blocks tag.old (TypeB frame.entry into) a tag.new) (λ _. tag.new ≡ tag.old) }
+    ensures { MatchResult result (λ a. Performed S.blocks tag.old (TypeB frame.entry into) a tag.new) (λ _. tag.new ≡ tag.old) }
 {
     let mut buffer = vec![in heap; 0u8; into]?;
     let result = tag.type_b_frame(frame, buffer.as_mut_slice());
@@ -98,7 +98,7 @@ fn type_b_frame<S: Store>(
 }
 
 fn bench_performed<S: Store>(tag: &Tag<S>) -> Answer
-    ensures { Performed blocks tag.now BenchPerformed result tag.now }
+    ensures { Performed S.blocks tag.now BenchPerformed result tag.now }
 {
     Answer::Performed {
         count: tag.bench_performed(),
@@ -111,7 +111,7 @@ pub fn run<S: Store + Drop>(
     store: S,
     calls: &[Call<'_>],
 ) -> Result<(Tag<S>, Vec<Answer>), AllocError>
-    ensures { IfOk result (λ p. PerformedAll blocks store calls.now p.1.items p.0) }
+    ensures { IfOk result (λ p. PerformedAll S.blocks store calls.now p.1.items p.0) }
 {
     let mut tag = Tag::new(store);
     let answers = perform_all(heap, &mut tag, calls)?;
@@ -124,7 +124,7 @@ fn perform_all<S: Store>(
     tag: &mut Tag<S>,
     calls: &[Call<'_>],
 ) -> Result<Vec<Answer>, AllocError>
-    ensures { IfOk result (λ v. (store : S) → Made blocks store tag.old → PerformedAll blocks store calls.now v.items tag.new) }
+    ensures { IfOk result (λ v. (store : S) → Made S.blocks store tag.old → PerformedAll S.blocks store calls.now v.items tag.new) }
 {
     let mut answers = Vec::new(heap);
     for call in calls {

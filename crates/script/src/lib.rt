@@ -13,6 +13,8 @@
 // BLOCK and ROOM are decimal numbers. HEX is pairs of hex digits with spaces between pairs where one likes, and may
 // be empty.
 // A line that is empty or begins with `#` asks for nothing, and a carriage return at its end is passed over.
+#![tactic(auto)]
+
 ghost use Rattle.std.specs.Prelude.{◌≡◌, []};
 ghost use Rattle.std.specs.Option.{option_map};
 ghost use Rattle.script.specs.Words.{words_of, Gives};

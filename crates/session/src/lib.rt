@@ -1,4 +1,6 @@
 //! A session, from ATTRIB on: chaining in both directions, the pieces of an answer, and what is sent again.
+#![tactic(auto)]
+
 mod blocks;
 mod chain;
 mod chaining;

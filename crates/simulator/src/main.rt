@@ -1,4 +1,6 @@
 //! simulator [--strict] [SCRIPT]: answers the lines of a script, from a file or from standard input, as they come.
+#![tactic(auto)]
+
 use anyhow::anyhow;
 use console::{Device, block_read, call_of};
 use options::Options;

@@ -1,4 +1,6 @@
 //! The two block stores: the flat one keeps its bytes in their order, the log keeps writes and counts the newest of each block.
+#![tactic(auto)]
+
 mod entry;
 mod flat;
 mod flat_store;

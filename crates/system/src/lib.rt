@@ -1,4 +1,6 @@
 //! What a tag knows of itself: the fields of block 30, the protection in block 31, and how many blocks frames may write.
+#![tactic(auto)]
+
 mod copy;
 mod example;
 mod figure;

@@ -9,7 +9,7 @@ use system::Writable;
 impl<S: Store> Tag<S> {
     // Reads a block into a buffer of 16 bytes.
     pub fn bench_read(&self, block: u16, out: &mut [u8]) -> Result<(), Refusal>
-        ensures { Called blocks self.now (bench_read block out.old result out.new) self.now }
+        ensures { Called S.blocks self.now (bench_read block out.old result out.new) self.now }
     {
         let Some(number) = BlockNumber::new(block) else {
             return Err(Refusal::NoSuchBlock);
@@ -23,7 +23,7 @@ impl<S: Store> Tag<S> {
 
     // Writes a block of 16 bytes.
     pub fn bench_write(&mut self, block: u16, bytes: &[u8]) -> Result<(), Refusal>
-        ensures { Called blocks self.old (bench_write block bytes.now result) self.new }
+        ensures { Called S.blocks self.old (bench_write block bytes.now result) self.new }
     {
         let Some(number) = BlockNumber::new(block) else {
             return Err(Refusal::NoSuchBlock);
@@ -39,7 +39,7 @@ impl<S: Store> Tag<S> {
 
     // How many user blocks frames may write now, and the lowest of them. With the field off that is 0 and none.
     pub fn bench_writable(&self) -> Writable
-        ensures { Called blocks self.now (bench_writable result) self.now }
+        ensures { Called S.blocks self.now (bench_writable result) self.now }
     {
         match self.field {
             Field::Off => Writable {
@@ -52,7 +52,7 @@ impl<S: Store> Tag<S> {
 
     // How many commands of Type B the tag has performed; after the last number of 64 bits it goes on from 0.
     pub fn bench_performed(&self) -> u64
-        ensures { Called blocks self.now (bench_performed result) self.now }
+        ensures { Called S.blocks self.now (bench_performed result) self.now }
     {
         self.performed
     }

@@ -11,7 +11,7 @@ use reply::Reply;
 impl<S: Store> Tag<S> {
     // A JIS frame comes in. The reply goes to the front of the buffer, and its length is answered, or none for silence.
     pub fn jis_frame(&mut self, frame: &[u8], reply: &mut [u8]) -> Result<Option<usize>, Refusal>
-        ensures { Called blocks self.old (jis frame.now reply.old result reply.new) self.new }
+        ensures { Called S.blocks self.old (jis frame.now reply.old result reply.new) self.new }
     {
         if reply.len() < 256 {
             return Err(Refusal::ReplyBufferShort);
@@ -21,8 +21,8 @@ impl<S: Store> Tag<S> {
 
     // The whole reply, built before anything goes to the caller.
     fn jis_reply(&mut self, frame: &[u8]) -> Reply
-        ensures said { held result ≡ jis_reply (jis_payload (serving (power_in self.old.field)) (blocks self.old.store) frame.now) }
-        ensures memory { blocks self.new.store ≡ jis_memory (serving (power_in self.old.field)) (blocks self.old.store) frame.now }
+        ensures said { held result ≡ jis_reply (jis_payload (serving (power_in self.old.field)) (S.blocks self.old.store) frame.now) }
+        ensures memory { S.blocks self.new.store ≡ jis_memory (serving (power_in self.old.field)) (S.blocks self.old.store) frame.now }
         ensures field { self.new.field ≡ self.old.field }
         ensures performed { self.new.performed ≡ self.old.performed }
     {
@@ -38,7 +38,7 @@ impl<S: Store> Tag<S> {
 
     // A Type B frame comes in, likewise.
     pub fn type_b_frame(&mut self, frame: &[u8], reply: &mut [u8]) -> Result<Option<usize>, Refusal>
-        ensures { Called blocks self.old (type_b frame.now reply.old result reply.new) self.new }
+        ensures { Called S.blocks self.old (type_b frame.now reply.old result reply.new) self.new }
     {
         if reply.len() < 256 {
             return Err(Refusal::ReplyBufferShort);
@@ -47,8 +47,8 @@ impl<S: Store> Tag<S> {
     }
 
     fn type_b_reply(&mut self, frame: &[u8]) -> Reply
-        ensures said { held result ≡ type_b_reply (type_b_body (power_in self.old.field) (blocks self.old.store) frame.now) }
-        ensures after { view blocks self.new ≡ type_b_after (view blocks self.old) frame.now }
+        ensures said { held result ≡ type_b_reply (type_b_body (power_in self.old.field) (S.blocks self.old.store) frame.now) }
+        ensures after { view S.blocks self.new ≡ type_b_after (view S.blocks self.old) frame.now }
     {
         let mut reply = Reply::new();
         if let Field::On { copy, state } = self.field {

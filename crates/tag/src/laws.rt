@@ -5,7 +5,7 @@ use memory::Store;
 
 // Whatever calls led to a tag over a lawful store, refused ones among them, its memory and its answers are those that the calls tell.
 pub fn runs_keep<S: Store>()
-    ensures { RunsKeep {S = S} blocks }
+    ensures { RunsKeep {S = S} S.blocks }
 {}
 
 // The same of a tag of which no more is known than what it is, apart from how it keeps it, and the commands that it performed are
@@ -20,5 +20,5 @@ pub fn traces_keep()
 
 // Whatever calls led to a tag over a store, they are a trace of what the tag is.
 pub fn runs_are_traces<S: Store>()
-    ensures { RunsAreTraces {S = S} blocks }
+    ensures { RunsAreTraces {S = S} S.blocks }
 {}

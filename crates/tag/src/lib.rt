@@ -1,4 +1,6 @@
 //! The tag over any store of blocks: its making, its field, the bench, frames, and the law that every sequence of its calls keeps.
+#![tactic(auto)]
+
 mod bench;
 mod frames;
 mod laws;

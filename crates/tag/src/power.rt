@@ -9,7 +9,7 @@ use type_b_service::State;
 impl<S: Store> Tag<S> {
     // A tag over the store, the field off.
     pub fn new(store: S) -> Tag<S>
-        ensures { Made blocks store result }
+        ensures { Made S.blocks store result }
     {
         Tag {
             store,
@@ -20,7 +20,7 @@ impl<S: Store> Tag<S> {
 
     // The field comes on: blocks 30 and 31 are copied, and the copy rules until the field goes off.
     pub fn field_on(&mut self)
-        ensures { Called blocks self.old field_on self.new }
+        ensures { Called S.blocks self.old field_on self.new }
     {
         match self.field {
             Field::Off => {
@@ -41,7 +41,7 @@ impl<S: Store> Tag<S> {
 
     // The field goes off, and all that was held while it was on is gone.
     pub fn field_off(&mut self)
-        ensures { Called blocks self.old field_off self.new }
+        ensures { Called S.blocks self.old field_off self.new }
     {
         self.field = Field::Off;
     }

@@ -1,4 +1,6 @@
 //! ISO/IEC 14443 Type B frames, taken apart: what a frame asks, with its parts lent from the frame.
+#![tactic(auto)]
+
 mod frame;
 mod laws;
 mod parsing;

@@ -69,8 +69,8 @@ fn answer_to<'a, S: Store>(
     session: &'a Session,
     inf: &'a [u8],
 ) -> Answer
-    ensures answer { whole result ≡ answer_to protection.now.bytes (blocks store.old) (picked_order (model session.now).chain inf.now) }
-    ensures memory { blocks store.new ≡ memory_after protection.now.bytes (blocks store.old) (picked_order (model session.now).chain inf.now) }
+    ensures answer { whole result ≡ answer_to protection.now.bytes (S.blocks store.old) (picked_order (model session.now).chain inf.now) }
+    ensures memory { S.blocks store.new ≡ memory_after protection.now.bytes (S.blocks store.old) (picked_order (model session.now).chain inf.now) }
 {
     match session.command(inf) {
         Some(command) => perform(store, protection, command),
@@ -87,8 +87,8 @@ pub(crate) fn take_last<S: Store>(
     reply: &mut Reply,
 ) -> State
     requires { held reply.old ≡ [] }
-    ensures turned { Turned (turn [] protection.now.bytes (blocks store.old) (phase_of state) (information false inf.now)) result (held reply.new) }
-    ensures memory { blocks store.new ≡ effect protection.now.bytes (blocks store.old) (ordered (phase_of state) inf.now) }
+    ensures turned { Turned (turn [] protection.now.bytes (S.blocks store.old) (phase_of state) (information false inf.now)) result (held reply.new) }
+    ensures memory { S.blocks store.new ≡ effect protection.now.bytes (S.blocks store.old) (ordered (phase_of state) inf.now) }
 {
     let State::Active(mut session) = state else {
         return state;

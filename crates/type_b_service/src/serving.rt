@@ -21,9 +21,9 @@ pub fn serve<S: Store>(
     reply: &mut Reply,
 ) -> Served
     requires { held reply.old ≡ [] }
-    ensures turned { Turned (turn copy.now.identity.bytes copy.now.protection.bytes (blocks store.old) (phase_of state) (kind_of frame.now)) result.state (held reply.new) }
+    ensures turned { Turned (turn copy.now.identity.bytes copy.now.protection.bytes (S.blocks store.old) (phase_of state) (kind_of frame.now)) result.state (held reply.new) }
     ensures performed { result.performed ≡ is_some (completed (phase_of state) (kind_of frame.now)) }
-    ensures memory { blocks store.new ≡ effect copy.now.protection.bytes (blocks store.old) (completed (phase_of state) (kind_of frame.now)) }
+    ensures memory { S.blocks store.new ≡ effect copy.now.protection.bytes (S.blocks store.old) (completed (phase_of state) (kind_of frame.now)) }
 {
     let taken = taken_apart(frame);
     Served {
@@ -50,8 +50,8 @@ fn by_kind<S: Store>(
     reply: &mut Reply,
 ) -> State
     requires { held reply.old ≡ [] }
-    ensures turned { Turned (turn copy.now.identity.bytes copy.now.protection.bytes (blocks store.old) (phase_of state) (kind frame.entry)) result (held reply.new) }
-    ensures memory { blocks store.new ≡ effect copy.now.protection.bytes (blocks store.old) (completed (phase_of state) (kind frame.entry)) }
+    ensures turned { Turned (turn copy.now.identity.bytes copy.now.protection.bytes (S.blocks store.old) (phase_of state) (kind frame.entry)) result (held reply.new) }
+    ensures memory { S.blocks store.new ≡ effect copy.now.protection.bytes (S.blocks store.old) (completed (phase_of state) (kind frame.entry)) }
 {
     match frame {
         Frame::Request { afi, param } => request(&copy.identity, state, afi, param, reply),

@@ -1,4 +1,5 @@
 // Runs the published vectors of both checksums, a line for each.
+#![tactic(auto)]
 
 ghost use Rattle.std.specs.Prelude.{◌≡◌};
 ghost use Rattle.checksum.specs.Checksum.{jis_checksum, crc_b};

@@ -5,7 +5,7 @@ use Rattle.checksum.proofs.crc_b_register.Goals as goal
 
 pub loop-byte-preserved : goal.loop-byte-preserved
 loop-byte-preserved c =
-    rw c.loop-byte.invariant at c.byte-down-register.ensures
+    rw c.loop-byte.invariant at c.byte_down-register.ensures
     ∙ sym (one_more_is step_down low_first 0xFFFF c.args.bytes.now c.loop-byte.byte-index c.loop-byte-test.true)
 
 pub returns : goal.returns

@@ -5,7 +5,7 @@ use Rattle.checksum.proofs.jis_register.Goals as goal
 
 pub loop-byte-preserved : goal.loop-byte-preserved
 loop-byte-preserved c =
-    rw c.loop-byte.invariant at c.byte-up-register.ensures
+    rw c.loop-byte.invariant at c.byte_up-register.ensures
     ∙ sym (one_more_is step_up high_first 0 c.args.bytes.now c.loop-byte.byte-index c.loop-byte-test.true)
 
 pub returns : goal.returns

@@ -5,7 +5,7 @@ use Rattle.jis.proofs.elements.list_width.Goals as goal
 
 pub loop-turn-preserved : goal.loop-turn-preserved
 loop-turn-preserved c =
-    (omega arith, width_more c.args.bytes.now _ _ _ _ c.loop-turn-test.true (c.element-size-at.ensures.value ∙ ap size c.byte-at.ensures) c.loop-turn.invariant.1)
+    (omega arith, width_more c.args.bytes.now _ _ _ _ c.loop-turn-test.true (c.element_size-at.ensures.value ∙ ap size c.byte_at.ensures) c.loop-turn.invariant.1)
 
 pub returns : goal.returns
 returns c =

@@ -2,8 +2,8 @@ use Rattle.std.proofs.Common.{◌≡◌, get_or, sym, ◌∙◌, arith}
 use Rattle.std.proofs.lemmas.Bool.{cond-false, ne_eqb}
 use Rattle.jis.proofs.frame.command_taken.Goals as goal
 
-pub returns-in-default : goal.returns-in-default
-returns-in-default c =
+pub returns-in_default : goal.returns-in_default
+returns-in_default c =
     let code = get_or c.args.payload.now 0 0 in
     let n0 : code ≡ 0x00 → ⊥ = λ (e : code ≡ 0x00). omega arith in
     let n6 : code ≡ 0x06 → ⊥ = λ (e : code ≡ 0x06). omega arith in

@@ -6,5 +6,5 @@ use Rattle.links.proofs.carrying.hand_over.Goals as goal
 pub returns-in-Ok : goal.returns-in-Ok
 returns-in-Ok g c =
     let blocks = g.S.Store.blocks in
-    handed c.args.reply.now c.type-b-frame.new.reply (omega arith) (view blocks c.args.tag.now) (view blocks c.type-b-frame.new.self) c.args.frame.now
+    handed c.args.reply.now c.type_b_frame.new.reply (omega arith) (view blocks c.args.tag.now) (view blocks c.type_b_frame.new.self) c.args.frame.now
     c.in-Ok.heard c.in-Ok.ensures.step

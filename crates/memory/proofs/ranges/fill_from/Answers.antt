@@ -18,8 +18,8 @@ loop-done-preserved g c =
     let on : o + n ≤ 16 = omega arith in
     let ev : (o + n) - o ≡ n = omega arith in
     let ew : (k + n) - k ≡ n = omega arith in (
-      read_turn _ c.args.out.now c.loop-done.out c.value-from.result k n b o ((o + n) - o) ((k + n) - k) c.read_held.result c.copy-from-slice.new.self
-          (g.met.S.Store.shaped c.args.store.now) c.loop-done.invariant.0 kn at on c.lookup-offset.result.0.within c.read_held.ensures ev ew c.copy-from-slice.ensures.after,
+      read_turn _ c.args.out.now c.loop-done.out c.value-from.result k n b o ((o + n) - o) ((k + n) - k) c.read-held.result c.copy_from_slice.new.self
+          (g.met.S.Store.shaped c.args.store.now) c.loop-done.invariant.0 kn at on c.lookup-offset.result.0.within c.read-held.ensures ev ew c.copy_from_slice.ensures.after,
       kn,
     )
 

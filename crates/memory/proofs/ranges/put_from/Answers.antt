@@ -17,8 +17,8 @@ loop-done-preserved g c =
     let on : o + n ≤ 16 = omega arith in
     let ev : (k + n) - k ≡ n = omega arith in
     let ew : (o + n) - o ≡ n = omega arith in (
-      c.write.ensures ∙ write_turn _ _ c.value-from.result c.args.«data».now k n b o ((k + n) - k) ((o + n) - o) c.read_held.result c.copy-from-slice.new.self
-          (g.met.S.Store.shaped c.loop-done.store) c.loop-done.invariant.0 kn at on c.lookup-offset.result.0.within c.read_held.ensures ev ew c.copy-from-slice.ensures.after,
+      c.write.ensures ∙ write_turn _ _ c.value-from.result c.args.«data».now k n b o ((k + n) - k) ((o + n) - o) c.read-held.result c.copy_from_slice.new.self
+          (g.met.S.Store.shaped c.loop-done.store) c.loop-done.invariant.0 kn at on c.lookup-offset.result.0.within c.read-held.ensures ev ew c.copy_from_slice.ensures.after,
       kn,
     )
 

@@ -11,10 +11,10 @@ loop-call-init g c = λ store r. ([], subst (λ z. Told [] z []) (sym c.new-answ
 pub loop-call-preserved : goal.loop-call-preserved
 loop-call-preserved g c = λ store r.
     let i = c.loop-call.invariant store r in
-    let p = c.in-ok-perform.ensures in (
+    let p = c.in_ok-perform.ensures in (
       p.event ∷ i.0,
-      told_more c.args.calls.now c.loop-call.call-index _ _ _ _ c.in-ok-perform.field-0 i.0 p.event c.loop-call-test.true refl
-          c.in-ok-push.ensures.items i.1 p.tells,
+      told_more c.args.calls.now c.loop-call.call-index _ _ _ _ c.in_ok-perform.field-0 i.0 p.event c.loop-call-test.true refl
+          c.in_ok-push.ensures.items i.1 p.tells,
       call i.2 p.called,
     )
 

@@ -9,7 +9,7 @@ pub loop-rest-preserved : goal.loop-rest-preserved
 loop-rest-preserved c =
     let rest = c.loop-rest.rest.now in
     let long : 2 ≤ length rest = search rules in
-    let pushed = chosen _ _ _ _ c.push.ensures.items c.if-is-err.ensures.negation in
+    let pushed = chosen _ _ _ _ c.push.ensures.items c.if-is_err.ensures.negation in
     ap₂ (λ xs w. onto xs (hex_word w)) pushed (take_rest rest 2)
-    ∙ hex_more (vec_items c.loop-rest.bytes) rest _ long c.in-ok-hex-byte.ensures
+    ∙ hex_more (vec_items c.loop-rest.bytes) rest _ long c.in_ok-hex_byte.ensures
     ∙ c.loop-rest.invariant

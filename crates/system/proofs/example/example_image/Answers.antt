@@ -5,4 +5,4 @@ use Rattle.system.proofs.example.example_image.Goals as goal
 
 pub returns : goal.returns
 unfolding example_image
-returns c = ap₂ (λ (x y : List ℕ). put_mid 496 16 (put_mid 480 16 (replicate 512 0) x) y) c.copy-from-slice.ensures.after c.copy-from-slice-2.ensures.after
+returns c = ap₂ (λ (x y : List ℕ). put_mid 496 16 (put_mid 480 16 (replicate 512 0) x) y) c.copy_from_slice.ensures.after c.copy_from_slice-2.ensures.after

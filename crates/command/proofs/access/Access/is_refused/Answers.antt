@@ -10,16 +10,16 @@ pub loop-i-preserved : goal.loop-i-preserved
 loop-i-preserved c =
     let p = barred c.args.self c.args.protection.now.bytes in
     let at : c.known-block.result.index ≡ c.lookup-offset.result.0.index + c.loop-i.i = omega arith in
-    none_more p _ _ c.loop-i.invariant (ap p (sym at) ∙ sym c.is-barred.ensures ∙ c.if-is-barred.false)
+    none_more p _ _ c.loop-i.invariant (ap p (sym at) ∙ sym c.is_barred.ensures ∙ c.if-is_barred.false)
 
-pub returns-then-is-barred : goal.returns-then-is-barred
-returns-then-is-barred c =
+pub returns-then-is_barred : goal.returns-then-is_barred
+returns-then-is_barred c =
     let p = barred c.args.self c.args.protection.now.bytes in
     let a = c.args.start.at in
     let n = c.args.count in
     let at : c.known-block.result.index ≡ a / 16 + c.loop-i.i = omega arith in
     let l : c.loop-i.i < (a + n - 1) / 16 - a / 16 + 1 = omega arith in
-    sym (found p (a / 16) c.loop-i.i ((a + n - 1) / 16 - a / 16 + 1) l (ap p (sym at) ∙ sym c.is-barred.ensures ∙ c.if-is-barred.true))
+    sym (found p (a / 16) c.loop-i.i ((a + n - 1) / 16 - a / 16 + 1) l (ap p (sym at) ∙ sym c.is_barred.ensures ∙ c.if-is_barred.true))
 
 pub returns : goal.returns
 returns c =

@@ -7,7 +7,7 @@ use Rattle.links.proofs.plan.Plan.delivery.Goals as goal
 pub returns-then-exchange-self : goal.returns-then-exchange-self
 returns-then-exchange-self c =
     let p = c.args.self.now in
-    c.delivery-of.ensures ∙ ap delivery_of (sym (get_or-take p.len p.bytes c.args.exchange 0 (omega arith)))
+    c.delivery_of.ensures ∙ ap delivery_of (sym (get_or-take p.len p.bytes c.args.exchange 0 (omega arith)))
 
 pub returns-else-exchange-self : goal.returns-else-exchange-self
 returns-else-exchange-self c = let p = c.args.self.now in ap delivery_of (sym (get_or_past (bytes_of p) c.args.exchange 0 (omega (arith, length-take p.len p.bytes))))

@@ -8,7 +8,7 @@ pub returns : goal.returns
 returns g c =
     let was = c.args.self.now in
     let plan = bytes_of was.plan in
-    let gone = c.in-ok-heard.ensures in (
+    let gone = c.in_ok-heard.ensures in (
       gone.0,
       record {
         delivery = c.delivery.result;

@@ -7,6 +7,6 @@ pub returns : goal.returns
 unfolding jis_sealed
 returns c =
     record {
-      items = c.push.ensures.items ∙ ap (λ t. held c.args.self.now ++ t) c.jis-checksum-checksum.ensures;
+      items = c.push.ensures.items ∙ ap (λ t. held c.args.self.now ++ t) c.jis_checksum-checksum.ensures;
       len = omega arith;
     }

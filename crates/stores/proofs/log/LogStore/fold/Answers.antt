@@ -10,7 +10,7 @@ loop-i-init c = (ap (λ (n : ℕ). take n c.zeros-kept.result.log.cells) c.zeros
 pub loop-i-preserved : goal.loop-i-preserved
 loop-i-preserved c = (
   fold_more c.loop-i.i (entries c.args.self.now) (entries c.loop-i.kept) _ c.newest.result c.loop-i.invariant.0
-      (c.newest.ensures ∙ ap (newest (entries c.args.self.now)) c.known.ensures) c.append-some.ensures.entries,
+      (c.newest.ensures ∙ ap (newest (entries c.args.self.now)) c.known.ensures) c.append_some.ensures.entries,
   omega arith,
 )
 

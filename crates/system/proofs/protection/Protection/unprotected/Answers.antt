@@ -7,4 +7,4 @@ pub returns : goal.returns
 returns c =
     let ro = subst (λ (f : List ℕ). Word f c.word.result) c.rorf.ensures c.word.ensures in
     let se = subst (λ (f : List ℕ). Word f c.word-2.result) c.security.ensures c.word-2.ensures in
-    record { small = mask_lt27 _; bits = λ b h. mask_bit c.args.self.now.bytes c.word.result c.word-2.result b ro se c.word.type-inv c.word-2.type-inv h }
+    record { small = mask_lt27 _; bits = λ b h. mask_bit c.args.self.now.bytes c.word.result c.word-2.result b ro se c.word.type_inv c.word-2.type_inv h }
