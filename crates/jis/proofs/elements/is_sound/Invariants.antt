@@ -4,4 +4,4 @@ use Rattle.jis.proofs.elements.is_sound.Given as goal
 
 -- the answer rests on what is left
 abbrev pub invariant-loop-turn : goal.invariant-loop-turn
-invariant-loop-turn l = (l.at ≤ 3 * l.-turn) × (sound (l.m - l.-turn) (drop l.at l.bytes) ≡ sound l.m l.bytes)
+invariant-loop-turn l = (l.at ≤ 3 * l._turn) × (sound (l.m - l._turn) (drop l.at l.bytes) ≡ sound l.m l.bytes)

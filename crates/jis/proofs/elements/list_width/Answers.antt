@@ -9,6 +9,6 @@ loop-turn-preserved c =
 
 pub returns : goal.returns
 returns c =
-    let none : c.args.m - c.loop-turn.-turn ≡ 0 = omega arith in
-    let left : width (c.args.m - c.loop-turn.-turn) (drop c.loop-turn.at c.args.bytes.now) ≡ 0 = ap (λ k. width k (drop c.loop-turn.at c.args.bytes.now)) none in
+    let none : c.args.m - c.loop-turn._turn ≡ 0 = omega arith in
+    let left : width (c.args.m - c.loop-turn._turn) (drop c.loop-turn.at c.args.bytes.now) ≡ 0 = ap (λ k. width k (drop c.loop-turn.at c.args.bytes.now)) none in
     record { value = omega (arith, left, c.loop-turn.invariant.1); bound = omega arith }

@@ -4,7 +4,7 @@ use Rattle.jis.specs.Commands.{data_width, asked, blocks_of}
 use Rattle.jis.proofs.Listing.{listed_front}
 use Rattle.jis.proofs.Rules.{blocks_passed}
 use Rattle.jis.proofs.lists.blocks_taken.Goals as goal
-use Rattle.jis.proofs.lists.blocks_taken.Goals.{Else-not-is-sound}
+use Rattle.jis.proofs.lists.blocks_taken.Goals.{Else-not-is_sound}
 
 good : (c : Else-not-is_sound) → sound c.args.m (take c.list_width-width.result c.args.body.now) ≡ true
 good c = ap (sound c.args.m) (sym c.split_at.ensures.front) ∙ sym c.if-not-is_sound.ensures

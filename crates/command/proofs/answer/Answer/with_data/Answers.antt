@@ -3,8 +3,8 @@ use Rattle.std.proofs.lemmas.Slice.{take-put_mid}
 use Rattle.command.proofs.Parts.{length_kept}
 use Rattle.command.proofs.answer.Answer.with_data.Goals as goal
 
-pub invariant-of-result : goal.invariant-of-result
-invariant-of-result c =
+pub invariant_of-result : goal.invariant_of-result
+invariant_of-result c =
     let e = c.copy_from_slice.ensures.after in
     let k : length c.copy_from_slice.new.self ≡ (c.args.n + 2) - c.args.n = omega (arith, ap length e) in
     let fits : c.args.n + ((c.args.n + 2) - c.args.n) ≤ length c.args.«data».now = omega arith in

@@ -4,8 +4,8 @@ use Rattle.std.proofs.lemmas.Slice.{take-put_mid}
 use Rattle.exchange.proofs.Pushing.{put_mid_length}
 use Rattle.exchange.proofs.buffer.Buffer.push.Goals as goal
 
-pub invariant-of-self : goal.invariant-of-self
-invariant-of-self c =
+pub invariant_of-self : goal.invariant_of-self
+invariant_of-self c =
     let o = c.args.self.now in
     let n = length-take-le o.len o.bytes (omega (arith, o.within, o.full)) in
     let low : o.len + length c.args.more.now ≤ 256 = omega (arith, c.requires) in
