@@ -9,7 +9,7 @@ invariant_of-result c =
     let k : length c.copy_from_slice.new.self ≡ (c.args.n + 2) - c.args.n = omega (arith, ap length e) in
     let fits : c.args.n + ((c.args.n + 2) - c.args.n) ≤ length c.args.«data».now = omega arith in
     let full : length c.args.«data».now ≡ 256 = omega arith in
-    (omega arith, (length_kept _ _ _ _ k fits ∙ full, tt))
+    record { within = omega arith; full = length_kept _ _ _ _ k fits ∙ full }
 
 pub returns : goal.returns
 returns c =

@@ -10,7 +10,7 @@ invariant_of-self c =
     let n = length-take-le o.len o.bytes (omega (arith, o.within, o.full)) in
     let low : o.len + length c.args.more.now ≤ 256 = omega (arith, c.requires) in
     let same : length c.copy_from_slice.new.self ≡ o.len + length c.args.more.now - o.len = omega (arith, ap length c.copy_from_slice.ensures.after) in
-    (low, (put_mid_length o.len (o.len + length c.args.more.now - o.len) o.bytes c.copy_from_slice.new.self (omega (arith, o.full)) same ∙ o.full, tt))
+    record { within = low; full = put_mid_length o.len (o.len + length c.args.more.now - o.len) o.bytes c.copy_from_slice.new.self (omega (arith, o.full)) same ∙ o.full }
 
 pub returns : goal.returns
 returns c =
