@@ -10,6 +10,7 @@ use Rattle.tag.specs.Model.{Model}
 use Rattle.tag.specs.History.{type_b}
 use Rattle.tag.specs.Steps.{Step, type_b_reply}
 use Rattle.tag.specs.Kinds.{body_to}
+use Rattle.tag.proofs.Kinded.{body_by_kind, after_by_kind}
 use Rattle.link.specs.declared.delivery.Delivery.{Delivery}
 use Rattle.link.specs.declared.delivery.Delivery.TheVariants.{Complete}
 use Rattle.link.specs.Carried.{carried}
@@ -47,11 +48,14 @@ module _ (before after : List ℕ) (full : length after ≡ 256) where
   pub handed : (s t : Model) (f : List ℕ) (o : Option ℕ) → Step s (type_b f before (Ok o) after) t → Carried s f Complete o before after t
   handed s t f o step =
       let body = body_to s.power s.memory (kind_of f) in
+      let kind = body_by_kind s.power s.memory f in
+      let said : o ≡ sent (type_b_reply body) = step.0.1 ∙ ap (λ b. sent (type_b_reply b)) kind in
+      let over_it : after ≡ over (type_b_reply body) before = step.0.2 ∙ ap (λ b. over (type_b_reply b) before) kind in
       record {
-        tag = step.1;
-        hears = out_came body o step.0.1 step.0.2;
-        sound = out_sound body o step.0.1;
-        laid = out_laid body o step.0.1 step.0.2;
+        tag = step.1 ∙ after_by_kind s f;
+        hears = out_came body o said over_it;
+        sound = out_sound body o said;
+        laid = out_laid body o said over_it;
       }
 
 -- of a longer buffer the first 256 bytes were lent

@@ -2,6 +2,7 @@ mod Placing
 mod Listing
 mod Replies
 mod Counting
+pub mod Kinded
 mod Sessions
 mod Tracing
 mod Turning

@@ -1,6 +1,6 @@
 use Rattle.std.proofs.Common.{◌≡◌, sym, ◌∙◌}
 use Rattle.exchange.specs.Held.{held}
-use Rattle.exchange.proofs.Asking.{asked}
+use Rattle.exchange.proofs.Hearing.{asked}
 use Rattle.exchange.proofs.asking.ask.Goals as goal
 
 pub returns-in-Some : goal.returns-in-Some
