@@ -1,5 +1,5 @@
 -- A frame that meets silence leaves the memory: only a WRITE changes it, and a WRITE is always answered. Assumes nothing.
-use Rattle.std.proofs.Common.{◌≡◌, ℕ, Bool, true, false, cond, List, [], ◌∷◌, ◌++◌, length, Ok, Err, Result, refl, ap, arith}
+use Rattle.std.proofs.Common.{◌≡◌, ℕ, Bool, true, false, cond, List, [], ◌∷◌, length, Ok, Err, Result, refl, ap, arith}
 use Rattle.memory.specs.Memory.{Memory}
 use Rattle.system.specs.Identity.{idm}
 use Rattle.system.specs.Protection.{may_write}

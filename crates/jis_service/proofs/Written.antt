@@ -6,7 +6,7 @@ use Rattle.system.specs.Protection.{may_write}
 use Rattle.jis.specs.declared.fault.Fault.{Fault}
 use Rattle.jis.specs.Elements.{numbers}
 use Rattle.jis.specs.Commands.{Asked, req, read, write}
-use Rattle.jis_service.specs.Service.{every, written_in, written_for, memory_for}
+use Rattle.jis_service.specs.Service.{every, written_in, memory_for}
 
 -- a block that does not pass is not among those that all pass
 pub not_listed : (p : ℕ → Bool) (m : Memory) (ns d : List ℕ) (b : ℕ) → every p ns ≡ true → p b ≡ false → block_at (written_in m ns d) b ≡ block_at m b

@@ -1,5 +1,5 @@
 -- Bytes put into a block, or taken from one, are bytes put or taken from an address on. Assumes nothing.
-use Rattle.std.proofs.Common.{◌≡◌, ℕ, zero, suc, ◌+◌, ◌-◌, ◌*◌, ◌/◌, ◌%◌, ◌<◌, ◌≤◌, List, [], ◌∷◌, ◌++◌, length, get_or, take, drop, set, sym, refl, ap, ◌∙◌, ap₂, append_assoc, append-nil, add-zero, zero-add, arith, length-drop, length-set, length-take-le, drop-cons, get_or-set_same, drop-drop, take_at, take-add, drop_at, set-set}
+use Rattle.std.proofs.Common.{◌≡◌, ℕ, zero, suc, ◌+◌, ◌*◌, ◌/◌, ◌%◌, ◌<◌, ◌≤◌, List, [], ◌∷◌, ◌++◌, length, take, drop, set, sym, refl, ap, ◌∙◌, ap₂, append_assoc, append-nil, add-zero, zero-add, arith, length-drop, length-set, length-take-le, drop-cons, get_or-set_same, drop-drop, take_at, take-add, drop_at, set-set}
 use Rattle.std.proofs.lemmas.List.{drop_all}
 use lib.Seq.{sets, sets-eq, set-get_or}
 use borrow.Rule.Slice.PartMut.{put_mid}

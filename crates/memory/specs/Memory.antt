@@ -1,5 +1,5 @@
 -- The memory: blocks of 16 bytes by their numbers, and its bytes by block and offset. Assumes nothing.
-use Rattle.std.specs.Prelude.{◌≡◌, ℕ, zero, suc, ◌+◌, ◌*◌, ◌/◌, ◌%◌, ◌<◌, List, [], ◌∷◌, length, take, drop, replicate, slice_index, slice_index_or, slice_set}
+use Rattle.std.specs.Prelude.{◌≡◌, ℕ, zero, suc, ◌/◌, ◌%◌, ◌<◌, List, [], ◌∷◌, length, take, drop, replicate, slice_index, slice_index_or, slice_set}
 
 -- how many blocks a memory has, how many bytes a block, and how many bytes that makes
 abbrev pub block_count : ℕ

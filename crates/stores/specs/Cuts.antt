@@ -1,10 +1,8 @@
 -- An image cut into blocks: its blocks, one of them replaced, and the memory that writing the image leaves. Assumes nothing.
-use Rattle.std.specs.Prelude.{◌≡◌, ℕ, zero, suc, ◌+◌, ◌-◌, ◌*◌, ◌<◌, ◌≤◌, List, [], ◌∷◌, ◌++◌, length, take, drop, set, slice_set, refl}
-use Rattle.std.proofs.Common.{ap, ap₂, sym, ◌∙◌, append_assoc, append-nil, arith, add-zero, zero-add, not-suc-le-zero, length-drop, length-take, length-set, length-append, take_all, take_at, drop_at, drop-drop, take-take, length-take-le, take-suc-set}
+use Rattle.std.specs.Prelude.{◌≡◌, ℕ, zero, suc, ◌+◌, ◌*◌, ◌<◌, ◌≤◌, List, [], ◌∷◌, ◌++◌, length, take, drop, set, slice_set, refl}
+use Rattle.std.proofs.Common.{ap, ap₂, sym, ◌∙◌, append_assoc, append-nil, arith, not-suc-le-zero, length-drop, length-take, length-set, length-append, take_all, take_at, drop_at, drop-drop, take-take, length-take-le, take-suc-set}
 use borrow.Rule.Slice.PartMut.{put_mid}
-use Rattle.std.proofs.lemmas.List.Edits.{sets, sets-eq}
-use Rattle.std.proofs.Math.Seq.{drop-length}
-use Rattle.std.proofs.lemmas.List.{drop-take, take-append-drop, drop_all, nil_from_length, take-append-le, drop-append-le}
+use Rattle.std.proofs.lemmas.List.{drop-take, take-append-drop, nil_from_length, take-append-le, drop-append-le}
 use Rattle.memory.specs.Memory.{Memory, Shaped, block_at, block_count, block_size, memory_size, with_block, with_bytes, cut, blocks_of, zeros}
 use Rattle.memory.proofs.Runs.{put_in_block, put_more, all_set}
 use Rattle.memory.proofs.Shapes.{sized_set, shaped_zeros}

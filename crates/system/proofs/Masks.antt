@@ -1,9 +1,9 @@
 -- The bits of a mask: of a sum of bytes, an or, a complement and a remainder; their count and the lowest of them. Assumes nothing.
-use Rattle.std.proofs.Common.{◌≡◌, ℕ, zero, suc, ◌+◌, ◌-◌, ◌*◌, ◌/◌, ◌%◌, ◌^◌, ◌<◌, ◌≤◌, max, Bool, true, false, cond, not, ◌&&◌, eqb, ◌⊎◌, List, get_or, sym, refl, ap, ◌∙◌, ap₂, inl, inr, not-suc-le-zero, mul_assoc, pow-suc, add-one, one-add, arith, lit<}
+use Rattle.std.proofs.Common.{◌≡◌, ℕ, zero, suc, ◌+◌, ◌-◌, ◌*◌, ◌/◌, ◌%◌, ◌^◌, ◌<◌, max, Bool, true, false, cond, not, ◌&&◌, eqb, List, get_or, sym, refl, ap, ◌∙◌, ap₂, inl, inr, not-suc-le-zero, mul_assoc, pow-suc, one-add, arith, lit<}
 use Rattle.std.proofs.lemmas.Bool.{cases_eq, lt-ltb}
 use lib.Bits.{bit_and, bit_or, or_step, mask_lt}
 use lib.Count.{ones, count_trailing_zeros, ones_step, under}
-use Rattle.std.proofs.lemmas.Nat.{pow_pos, shr-shr, shr_split, or_shr, and_mask, field_of, or_lt}
+use Rattle.std.proofs.lemmas.Nat.{shr-shr, shr_split, or_shr, and_mask, field_of, or_lt}
 use Rattle.system.specs.Words.{Word}
 use Rattle.system.specs.Protection.{flagged, count_below, is_user, rorf, security, may_write}
 

@@ -1,9 +1,9 @@
 -- The tag's count is the number of commands performed, in 64 bits. Assumes nothing.
-use Rattle.std.proofs.Common.{◌≡◌, ℕ, ◌+◌, ◌%◌, ◌^◌, List, [], ◌∷◌, length, Some, None, Option, sym, refl, ap, ◌∙◌, arith}
+use Rattle.std.proofs.Common.{◌≡◌, ℕ, ◌+◌, ◌%◌, ◌^◌, List, [], ◌∷◌, length, Some, None, Option, refl, ap, ◌∙◌, arith}
 use Rattle.memory.specs.Memory.{Memory}
 use Rattle.type_b.specs.Frames.{kind_of}
 use Rattle.command.specs.Orders.{Asked}
-use Rattle.tag.specs.History.{Event, field_on, field_off, bench_read, bench_write, bench_writable, jis, type_b, bench_performed, History, heard}
+use Rattle.tag.specs.History.{field_on, field_off, bench_read, bench_write, bench_writable, jis, type_b, bench_performed, History, heard}
 use Rattle.tag.specs.Account.{progress, completing, asked_of, completes, due, Performance, one_more, performances}
 
 -- a command more, if its last piece was answered

@@ -1,5 +1,5 @@
 -- Traces keep the law, and so do runs. Assumes nothing.
-use Rattle.std.proofs.Common.{◌≡◌, ℕ, ◌+◌, ◌*◌, ◌%◌, ◌^◌, ◌<◌, Bool, true, false, List, [], ◌∷◌, ◌++◌, map, length, take, drop, Some, None, Ok, Err, Option, Result, sym, refl, ap, ◌∙◌, subst, ap₂, arith, lit<}
+use Rattle.std.proofs.Common.{◌≡◌, ℕ, ◌+◌, ◌*◌, ◌%◌, ◌^◌, Bool, true, false, List, [], ◌∷◌, ◌++◌, map, length, take, drop, Some, None, Ok, Err, Option, Result, sym, refl, ap, ◌∙◌, subst, ap₂, arith, lit<}
 use lib.ListN.{length-map}
 use Rattle.std.proofs.lemmas.Bool.{both_ways}
 use Rattle.std.specs.List.{flat_map}
@@ -17,7 +17,7 @@ use Rattle.type_b_service.specs.Turns.{Phase, idle, ready, halted, active, is_ac
 use Rattle.tag.specs.Model.{Copy, Powered, Model}
 use Rattle.tag.specs.History.{Event, field_on, field_off, bench_read, bench_write, bench_writable, jis, type_b, bench_performed, History, heard}
 use Rattle.tag.specs.Steps.{Step, fresh, kept, raised, dropped, with_memory, Shown, protection_of, unless_active, serving, jis_payload, jis_memory, jis_reply, type_b_body, type_b_reply, power_after, type_b_after}
-use Rattle.tag.specs.Puts.{in_block, puts}
+use Rattle.tag.specs.Puts.{puts}
 use Rattle.tag.specs.Account.{expected, came_on, ruling, Stands, identifier_in, normal, wrote_listed, readable, writable, due, due_after, one_more, performances}
 use Rattle.tag.specs.Account.{Progress, progress, follows, completing, completes, wrote_range, read_accepted, update_accepted}
 use Rattle.tag.specs.Performing as trace
@@ -27,7 +27,7 @@ use Rattle.tag.specs.Traces.{as_taken, Held}
 use Rattle.tag.proofs.Placing.{shaped_expected, put_block, stands}
 use Rattle.tag.proofs.Listing.{heard_is, wrote_nothing}
 use Rattle.tag.proofs.Replies.{jis_memory_is, jis_open, jis_gives, jis_free}
-use Rattle.tag.proofs.Sessions.{Front, Fits, Quiet, Holds, HoldsPower, unanswered_read}
+use Rattle.tag.proofs.Sessions.{Holds, HoldsPower, unanswered_read}
 use Rattle.tag.proofs.Tracing.{counts, traced}
 use Rattle.tag.proofs.Turning.{SizedPower, silence_writes, let_off, power_turned, power_remembered, silence_told, power_told, same_rules, same_size, power_spared, power_open, power_free, power_repeats, power_silent, sent_so_far}
 

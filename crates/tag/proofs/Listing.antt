@@ -1,10 +1,10 @@
 -- JIS frames and the account: what a WRITE puts, and what a reply tells. Assumes nothing.
-use Rattle.std.proofs.Common.{◌≡◌, ℕ, suc, ◌+◌, ◌*◌, ◌<◌, ◌≤◌, Bool, true, false, cond, eqb, List, [], ◌∷◌, ◌++◌, length, take, drop, Some, None, Ok, Err, Option, Result, sym, refl, ap, ◌∙◌, subst, ap₂, arith, length-drop, length-take, length-take-le}
+use Rattle.std.proofs.Common.{◌≡◌, ℕ, ◌*◌, ◌<◌, true, false, cond, eqb, List, [], ◌∷◌, ◌++◌, length, take, drop, Some, None, Ok, Err, Option, Result, sym, refl, ap, ◌∙◌, ap₂, arith, length-drop, length-take-le}
 use lib.Seq.{take-append_seam}
 use Rattle.std.proofs.lemmas.Bool.{ne_eqb, both_ways}
 use Rattle.reply.specs.Frames.{jis_frame, type_b_frame}
 use Rattle.tag.specs.Steps.{jis_reply, type_b_reply}
-use Rattle.memory.specs.Memory.{Memory, Shaped, block_at, block_size, with_block}
+use Rattle.memory.specs.Memory.{Memory, Shaped, with_block}
 use Rattle.memory.proofs.Shapes.{shaped_set}
 use Rattle.reply.specs.Held.{over, sent}
 use Rattle.jis.specs.declared.fault.Fault.{Fault}

@@ -1,11 +1,11 @@
 -- Bytes put at places: the shape stays, a block put whole is a block replaced, and each byte is the last one put there. Assumes nothing.
-use Rattle.std.proofs.Common.{◌≡◌, ℕ, suc, ◌+◌, ◌<◌, ◌≤◌, ◌⊎◌, List, [], ◌∷◌, length, get_or, set, sym, refl, ap, ◌∙◌, subst, ap₂, inl, inr, arith, length-set, get_or-set_other, get_or-set_same, set-set}
+use Rattle.std.proofs.Common.{◌≡◌, ℕ, suc, ◌<◌, ◌⊎◌, List, [], ◌∷◌, length, get_or, set, sym, refl, ap, ◌∙◌, subst, ap₂, inl, inr, arith, length-set, get_or-set_other, get_or-set_same, set-set}
 use lib.Seq.{sets, set-get_or}
 use Rattle.std.proofs.lemmas.Bool.{cases_eq}
 use Rattle.memory.specs.Memory.{Memory, Shaped, block_at, byte_at, with_byte, block_count, block_size}
 use Rattle.memory.proofs.Runs.{all_set}
 use Rattle.memory.proofs.Shapes.{shaped_byte}
-use Rattle.tag.specs.History.{Event, History}
+use Rattle.tag.specs.History.{History}
 use Rattle.tag.specs.Puts.{Put, in_block, puts, Spares, Last, here, later}
 use Rattle.tag.specs.Account.{writes, expected, Stands, from_start, was_put, stayed}
 

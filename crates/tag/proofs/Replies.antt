@@ -1,6 +1,6 @@
 -- JIS replies and the account: what the flags of a reply tell, and what its frame did to the memory. Assumes nothing.
-use Rattle.std.proofs.Common.{◌≡◌, ℕ, suc, ◌+◌, ◌*◌, ◌<◌, ◌≤◌, Bool, true, false, cond, List, [], ◌∷◌, ◌++◌, map, length, take, drop, Ok, Err, Result, sym, refl, ap, ◌∙◌, subst, ap₂, append_assoc, append-nil, arith, length-append, length-drop, length-take, take_at, drop_at}
-use Rattle.std.proofs.lemmas.Bool.{both_ways, cases_Bool}
+use Rattle.std.proofs.Common.{◌≡◌, ℕ, ◌+◌, ◌*◌, Bool, true, false, cond, List, [], ◌∷◌, ◌++◌, map, length, take, drop, Ok, Err, Result, sym, refl, ap, ◌∙◌, subst, append_assoc, append-nil, arith, length-append, length-drop, length-take, take_at, drop_at}
+use Rattle.std.proofs.lemmas.Bool.{both_ways}
 use Rattle.std.specs.List.{flat_map}
 use Rattle.std.specs.Str.{bytes_eq}
 use Rattle.checksum.specs.Checksum.{jis_checksum}
@@ -8,7 +8,6 @@ use Rattle.memory.specs.Memory.{Memory, Shaped, block_at}
 use Rattle.reply.specs.Frames.{jis_sealed, jis_frame}
 use Rattle.system.specs.Identity.{idm}
 use Rattle.system.specs.Protection.{may_read, may_write}
-use Rattle.jis.specs.declared.fault.Access.{Access}
 use Rattle.jis.specs.declared.fault.Fault.{Fault}
 use Rattle.jis.specs.declared.fault.Fault.TheVariants.{Length, Checksum, Code, Shape, ForeignIdentifier, ServiceCount, Truncated, ServicesDiffer, BlockCount, ListEnd, BadElement}
 use Rattle.jis.specs.declared.fault.Status.{Status}
@@ -17,7 +16,7 @@ use Rattle.jis.specs.Answers.{flags_payload, read_payload}
 use Rattle.jis.specs.Faults.{answer_code, answer_to, flags_of}
 use Rattle.jis.specs.Elements.{numbers}
 use Rattle.jis.specs.Commands.{Asked, req, read, write, command_of}
-use Rattle.jis_service.specs.Service.{every, fault_payload, written_in, read_for, write_for, written_for, payload_for, memory_for}
+use Rattle.jis_service.specs.Service.{every, fault_payload, written_in, payload_for, memory_for}
 use Rattle.jis_service.proofs.Taken.{own_command, lawful_command, Users, users, how_many}
 use Rattle.tag.specs.Puts.{in_blocks, puts}
 use Rattle.tag.specs.Steps.{jis_reply}

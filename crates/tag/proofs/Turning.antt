@@ -1,11 +1,9 @@
 -- A Type B frame, whatever its kind and whatever the state: what the tag keeps stays what the history tells. Assumes nothing.
-use Rattle.std.proofs.Common.{◌≡◌, ℕ, suc, ◌+◌, ◌-◌, ◌*◌, ◌/◌, ◌%◌, ◌^◌, ◌<◌, ◌≤◌, Bool, true, false, cond, not, ◌&&◌, ltb, ◌⊎◌, List, [], ◌∷◌, ◌++◌, map, length, take, drop, set, is_some, Some, None, Option, sym, refl, ap, ◌∙◌, subst, ap₂, inl, inr, append_assoc, append-nil, arith, take-append-drop, get_or-set_other}
+use Rattle.std.proofs.Common.{◌≡◌, ℕ, suc, ◌+◌, ◌-◌, ◌/◌, ◌%◌, ◌<◌, ◌≤◌, Bool, true, false, cond, not, ◌&&◌, ltb, List, [], ◌∷◌, ◌++◌, map, length, take, drop, set, Some, None, Option, sym, refl, ap, ◌∙◌, subst, ap₂, append_assoc, append-nil, arith, take-append-drop, get_or-set_other}
 use Rattle.std.proofs.lemmas.List.{drop_all}
-use Rattle.std.proofs.lemmas.Bool.{both_ways, cases_lt, and_parts, not-false, not_from_true}
+use Rattle.std.proofs.lemmas.Bool.{both_ways}
 use Rattle.std.specs.Str.{bytes_eq}
 use Rattle.memory.specs.Memory.{Memory, Shaped, block_at, block_of, with_byte, with_bytes}
-use Rattle.memory.proofs.Shapes.{shaped_byte}
-use Rattle.reply.specs.Frames.{type_b_frame}
 use Rattle.system.specs.Identity as own
 use Rattle.system.specs.Protection.{may_read, may_write}
 use Rattle.type_b.specs.declared.size.FrameSize.{FrameSize}
@@ -16,17 +14,17 @@ use Rattle.command.specs.Barred.{barred, touches}
 use Rattle.command.specs.Performed.{answer_to, memory_after}
 use Rattle.command.proofs.Blocks.{found}
 use Rattle.command.proofs.Ranges.{asked_within}
-use Rattle.session.specs.Chains.{Joined, short, long, clip, more, commanded}
+use Rattle.session.specs.Chains.{Joined, clip, more, commanded}
 use Rattle.session.specs.Model as model
 use Rattle.session.specs.Model.{SessionModel, started, inf_size, ack_pcb, last_body, after_chained, after_answer, next_sent, after_ack, ack_reply, nak_reply, same_number}
 use Rattle.session.proofs.Joins.{more_clip, commanded_clip}
-use Rattle.type_b_service.specs.Turns.{Phase, idle, ready, halted, active, Turn, silent, sends, in_ready, in_active, listens, fits, atqb, requested, chosen, laid_down, turn, ordered, completed, effect, counted}
+use Rattle.type_b_service.specs.Turns.{Phase, idle, ready, halted, active, Turn, silent, sends, in_ready, in_active, listens, fits, atqb, turn, ordered, completed, effect, counted}
 use Rattle.tag.specs.History.{History}
-use Rattle.tag.specs.Model.{Copy, Powered}
+use Rattle.tag.specs.Model.{Powered}
 use Rattle.tag.specs.Steps.{protection_of, type_b_body, type_b_reply, completed_by, power_after, memory_by}
 use Rattle.tag.specs.Performing.{Performed, performed_now, performed_by, performed_in}
 use Rattle.tag.specs.Puts.{puts}
-use Rattle.tag.specs.Account.{Progress, progress, inf_in, chained_in, ended, follows, completing, completes, wrote_range, read_accepted, update_accepted, readable, writable, fixed_answer, due, due_after, Performance, one_more}
+use Rattle.tag.specs.Account.{Progress, progress, inf_in, ended, follows, completing, completes, wrote_range, read_accepted, update_accepted, readable, writable, fixed_answer, due, due_after, Performance, one_more}
 use Rattle.tag.specs.Runs.{RBlock, r_ack, r_nak, Outgoing}
 use Rattle.tag.specs.Traces.{as_taken}
 use Rattle.tag.proofs.Counting.{count_by, none_counted}

@@ -4,7 +4,6 @@ use Rattle.memory.specs.Memory.{Memory}
 use Rattle.type_b.specs.Frames.{Kind, request, attrib, halt, deselect, information, ack, nak, unknown, kind_of}
 use Rattle.command.specs.Performed.{answer_to}
 use Rattle.session.specs.Chains.{Joined, more, commanded}
-use Rattle.session.specs.Model.{SessionModel}
 use Rattle.type_b_service.specs.Turns.{Phase, idle, ready, halted, active}
 use Rattle.tag.specs.Model.{Powered, Model}
 use Rattle.tag.specs.History.{Event, field_on, field_off, bench_read, bench_write, bench_writable, jis, type_b, bench_performed, History}

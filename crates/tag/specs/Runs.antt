@@ -13,7 +13,7 @@ use Rattle.tag.specs.declared.state.Tag.{Tag}
 use Rattle.tag.specs.History.{Event, field_on, field_off, bench_read, bench_write, bench_writable, jis, type_b, bench_performed, History, heard}
 use Rattle.tag.specs.Steps.{Shown, reply_room}
 use Rattle.tag.specs.View.{Made, Called}
-use Rattle.tag.specs.Account.{expected, Stands, ruling, identifier_in, normal, readable, writable, chained_in, Progress, progress, completes, read_accepted, update_accepted, due, performances}
+use Rattle.tag.specs.Account.{expected, Stands, ruling, identifier_in, normal, readable, writable, chained_in, progress, completes, read_accepted, update_accepted, due, performances}
 
 -- the tag t came from a tag made over the store by the calls of the history, and by nothing else
 pub data Ran {S : Type 0} (blocks : S → Memory) (store : S) : History → Tag S → Type 0 where

@@ -5,7 +5,7 @@ use Rattle.tag.specs.declared.state.Field.{Field}
 use Rattle.tag.specs.declared.state.Field.TheVariants.{Off, On}
 use Rattle.tag.specs.declared.state.Tag.{Tag}
 use Rattle.type_b_service.specs.View.{phase_of}
-use Rattle.tag.specs.Model.{Copy, Powered, Model}
+use Rattle.tag.specs.Model.{Powered, Model}
 use Rattle.tag.specs.History.{Event}
 use Rattle.tag.specs.Steps.{Step, fresh}
 

@@ -1,5 +1,5 @@
 -- The last piece of a command, as the code takes it. Assumes nothing.
-use Rattle.std.proofs.Common.{◌≡◌, ℕ, ◌≤◌, true, false, List, [], length, sym, refl, ap, ◌∙◌, subst}
+use Rattle.std.proofs.Common.{◌≡◌, ℕ, ◌≤◌, false, List, [], length, sym, ap, ◌∙◌, subst}
 use Rattle.memory.specs.Memory.{Memory}
 use Rattle.type_b.specs.Frames.{information}
 use Rattle.command.specs.Performed.{answer_to, memory_after}

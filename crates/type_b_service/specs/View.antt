@@ -1,7 +1,5 @@
 -- The state as the code keeps it, and a frame served. Assumes nothing.
 use Rattle.std.specs.Prelude.{◌≡◌, ℕ, ◌≤◌, List, length}
-use Rattle.memory.specs.Memory.{Memory}
-use Rattle.type_b.specs.Frames.{Kind}
 use Rattle.session.specs.View.{model}
 use Rattle.type_b_service.specs.declared.state.State.{State}
 use Rattle.type_b_service.specs.declared.state.State.TheVariants.{Idle, Ready, Active, Halt}

@@ -1,4 +1,4 @@
-use Rattle.std.proofs.Common.{◌≡◌, length, ap, arith}
+use Rattle.std.proofs.Common.{length, ap, arith}
 use Rattle.jis_service.proofs.Payloads.{push_turn}
 use Rattle.jis_service.proofs.blocks.push_blocks.Goals as goal
 

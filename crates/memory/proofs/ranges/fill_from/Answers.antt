@@ -1,4 +1,4 @@
-use Rattle.std.proofs.Common.{◌≡◌, ℕ, ◌+◌, ◌-◌, ◌*◌, ◌<◌, ◌≤◌, List, [], ◌++◌, length, take, drop, refl, ap, ◌∙◌, ap₂, append-nil, arith, rules}
+use Rattle.std.proofs.Common.{◌≡◌, ℕ, ◌+◌, ◌-◌, ◌*◌, ◌≤◌, List, [], ◌++◌, length, drop, refl, ◌∙◌, ap₂, append-nil, arith}
 use Rattle.std.proofs.lemmas.List.{drop_all}
 use Rattle.memory.specs.Memory.{bytes_from}
 use Rattle.memory.proofs.Runs.{read_turn}

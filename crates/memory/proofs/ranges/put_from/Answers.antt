@@ -1,4 +1,4 @@
-use Rattle.std.proofs.Common.{◌≡◌, ℕ, ◌+◌, ◌-◌, ◌*◌, ◌<◌, ◌≤◌, length, take, drop, refl, ◌∙◌, ap₂, arith, take_all, rules}
+use Rattle.std.proofs.Common.{◌≡◌, ◌+◌, ◌-◌, ◌*◌, ◌≤◌, length, refl, ◌∙◌, ap₂, arith, take_all}
 use Rattle.memory.specs.Memory.{with_bytes}
 use Rattle.memory.proofs.Runs.{write_turn}
 use Rattle.memory.proofs.ranges.put_from.Goals as goal

@@ -1,4 +1,4 @@
-use Rattle.std.proofs.Common.{◌≡◌, ℕ, List, replicate, ap₂}
+use Rattle.std.proofs.Common.{ℕ, List, replicate, ap₂}
 use borrow.Rule.Slice.PartMut.{put_mid}
 use Rattle.system.specs.Example.{example_image}
 use Rattle.system.proofs.example.example_image.Goals as goal

@@ -1,4 +1,4 @@
-use Rattle.std.proofs.Common.{◌≡◌, ℕ, ◌/◌, ◌%◌, ◌^◌, eqb, get_or, ap₂}
+use Rattle.std.proofs.Common.{ℕ, ◌/◌, ◌%◌, ◌^◌, eqb, get_or, ap₂}
 use Rattle.system.specs.Protection.{flagged}
 use Rattle.system.proofs.protection.is_set.Goals as goal
 

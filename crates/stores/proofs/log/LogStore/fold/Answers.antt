@@ -1,4 +1,4 @@
-use Rattle.std.proofs.Common.{◌≡◌, ℕ, ◌≤◌, take, refl, ap, ◌∙◌, arith, rules}
+use Rattle.std.proofs.Common.{◌≡◌, ℕ, take, ap, ◌∙◌, arith}
 use Rattle.stores.specs.Log.{entries, fold, newest}
 use Rattle.stores.specs.Replays.{fold_more}
 use Rattle.stores.proofs.log.LogStore.fold.Goals as goal

@@ -1,4 +1,4 @@
-use Rattle.std.proofs.Common.{◌≡◌, length, refl, ap, ◌∙◌, arith}
+use Rattle.std.proofs.Common.{◌≡◌, length, ap, ◌∙◌, arith}
 use Rattle.memory.specs.Memory.{Memory, with_bytes}
 use Rattle.stores.specs.Cuts.{image_written}
 use Rattle.stores.proofs.log.LogStore.load.Goals as goal

@@ -1,5 +1,4 @@
-use Rattle.std.proofs.Common.{◌≡◌, ℕ, ◌+◌, ◌-◌, ◌<◌, List, [], ◌∷◌, ◌++◌, length, take, sym, ap, ◌∙◌, arith}
-use Rattle.std.proofs.lemmas.List.{take_more}
+use Rattle.std.proofs.Common.{◌≡◌, ◌+◌, ◌-◌, ◌<◌, List, length, take, sym, ap, ◌∙◌, arith}
 use Rattle.stores.specs.declared.entry.Entry.{Entry}
 use Rattle.stores.specs.Log.{newest}
 use Rattle.stores.specs.Replays.{newest_here, newest_below, last_taken}
