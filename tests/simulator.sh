@@ -1,8 +1,8 @@
 #!/usr/bin/env bash
-# Runs target/bin/simulator from outside and compares what it prints, and its status. Ends at the first difference.
+# Runs the simulator, as `rt run` in crates/simulator leaves it, from outside and compares what it prints, and its status. Ends at the first difference.
 set -u
 cd "$(git rev-parse --show-toplevel)" || exit 1
-simulator=$PWD/target/bin/simulator
+simulator=$PWD/crates/simulator/out/simulator
 scratch=$(mktemp -d)
 trap 'rm -rf "$scratch"' EXIT
 count=0

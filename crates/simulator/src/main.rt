@@ -9,16 +9,18 @@ use runner::{Answer, Call};
 use script::{Contents, Request, StoreKind, read_line};
 use std::alloc::Global;
 use std::io::{BufRead, BufReader, BufWriter, Write};
+use std::process::ExitCode;
 use std::{env, fs, io};
 
 mod options;
 
-fn main(rt: HostRuntime) -> anyhow::Result<()> {
+fn main(rt: HostRuntime) -> ExitCode {
     match run(&rt) {
-        Ok(()) => Ok(()),
+        Ok(()) => ExitCode::SUCCESS,
         Err(error) => {
-            eprintln!(rt; "simulator: {error}")?;
-            Err(error)
+            // where no message can be written, the status tells
+            let _ = eprintln!(rt; "simulator: {error}");
+            ExitCode::FAILURE
         }
     }
 }
