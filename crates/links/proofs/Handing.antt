@@ -1,5 +1,5 @@
 -- What the tag's frame call leaves, as a reader on the other side has it. Assumes nothing.
-use Rattle.std.proofs.Common.{◌≡◌, ℕ, ◌+◌, ◌-◌, ◌%◌, ◌^◌, ◌≤◌, Bool, true, false, cond, List, [], ◌∷◌, ◌++◌, length, take, drop, is_some, Some, None, Ok, Err, Option, sym, refl, ap, ◌∙◌, subst, ap₂, arith, length-append, take-append-drop, length-take-le}
+use Rattle.std.proofs.Common.{◌≡◌, ℕ, ◌+◌, ◌%◌, ◌^◌, ◌≤◌, cond, List, [], ◌∷◌, ◌++◌, length, take, drop, is_some, Some, None, Ok, Option, sym, refl, ap, ◌∙◌, subst, ap₂, arith, length-append, take-append-drop, length-take-le}
 use lib.Seq.{take-append_seam, drop-append_seam, take-append-le, drop-append-le}
 use Rattle.std.proofs.lemmas.Bool.{ne_eqb}
 use Rattle.checksum.specs.Checksum.{crc_b}
@@ -14,7 +14,7 @@ use Rattle.tag.proofs.Kinded.{body_by_kind, after_by_kind}
 use Rattle.link.specs.declared.delivery.Delivery.{Delivery}
 use Rattle.link.specs.declared.delivery.Delivery.TheVariants.{Complete}
 use Rattle.link.specs.Carried.{carried}
-use Rattle.link.specs.Exchanges.{LinkState, spoken, came, heard, tag_after, unheard_after, exchanged, Laid}
+use Rattle.link.specs.Exchanges.{spoken, came, heard, unheard_after, Laid}
 use Rattle.link.proofs.Carrying.{there}
 use Rattle.links.specs.Wires.{Carried, Gone}
 

@@ -3,7 +3,6 @@ use Rattle.std.specs.Prelude.{◌≡◌, ℕ, ◌<◌, ◌≤◌, List, length, 
 use Rattle.memory.specs.Memory.{Memory}
 use Rattle.memory.specs.declared.refusal.Refusal.{Refusal}
 use Rattle.memory.specs.declared.refusal.Refusal.TheVariants.{ReplyBufferShort}
-use Rattle.tag.specs.declared.state.Tag.{Tag}
 use Rattle.tag.specs.Model.{Model}
 use Rattle.tag.specs.View.{view}
 use Rattle.tag.specs.Steps.{reply_room}

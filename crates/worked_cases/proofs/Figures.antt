@@ -1,5 +1,5 @@
 -- A least block is the one that passes with none below it. Assumes nothing.
-use Rattle.std.proofs.Common.{◌≡◌, ℕ, ◌<◌, Bool, true, false, Some, None, Option, sym, ◌∙◌, inl, inr}
+use Rattle.std.proofs.Common.{◌≡◌, ℕ, ◌<◌, Bool, true, false, Some, None, Option, inl, inr}
 use Rattle.std.proofs.lemmas.Bool.{cases_order, both_ways}
 use Rattle.memory.specs.declared.number.BlockNumber.{BlockNumber}
 use Rattle.system.specs.Protection.{Least}

@@ -1,4 +1,4 @@
-use Rattle.std.proofs.Common.{◌≡◌, sym, ◌∙◌}
+use Rattle.std.proofs.Common.{sym, ◌∙◌}
 use Rattle.exchange.specs.Held.{held}
 use Rattle.exchange.proofs.Hearing.{asked}
 use Rattle.exchange.proofs.asking.ask.Goals as goal

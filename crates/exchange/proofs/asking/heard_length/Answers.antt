@@ -1,4 +1,4 @@
-use Rattle.std.proofs.Common.{◌≡◌, sym, ap, ◌∙◌}
+use Rattle.std.proofs.Common.{sym, ap, ◌∙◌}
 use Rattle.link.specs.Exchanges.{came}
 use Rattle.exchange.proofs.Hearing.{part_came, part_most}
 use Rattle.exchange.proofs.asking.heard_length.Goals as goal

@@ -1,4 +1,4 @@
-use Rattle.std.proofs.Common.{sym, subst, arith}
+use Rattle.std.proofs.Common.{arith}
 use Rattle.tag.specs.View.{view}
 use Rattle.links.proofs.Handing.{handed}
 use Rattle.links.proofs.carrying.hand_over.Goals as goal

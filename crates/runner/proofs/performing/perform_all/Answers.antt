@@ -1,4 +1,4 @@
-use Rattle.std.proofs.Common.{◌≡◌, List, [], ◌∷◌, take, vec_items, sym, refl, subst, take_all}
+use Rattle.std.proofs.Common.{[], ◌∷◌, vec_items, sym, refl, subst, take_all}
 use Rattle.tag.specs.Runs.{made, call}
 use Rattle.tag.proofs.Law.{kept_law}
 use Rattle.runner.specs.Told.{Told, none}

@@ -1,4 +1,4 @@
-use Rattle.std.proofs.Common.{◌≡◌, ◌++◌, ap, ◌∙◌}
+use Rattle.std.proofs.Common.{◌++◌, ap, ◌∙◌}
 use Rattle.checksum.specs.Checksum.{crc_b}
 use Rattle.exchange.specs.Held.{held}
 use Rattle.exchange.proofs.buffer.Buffer.seal.Goals as goal

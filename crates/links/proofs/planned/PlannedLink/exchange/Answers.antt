@@ -1,4 +1,4 @@
-use Rattle.std.proofs.Common.{◌≡◌, ◌+◌, sym, ap, ◌∙◌, add-zero}
+use Rattle.std.proofs.Common.{◌+◌, sym, ap, ◌∙◌, add-zero}
 use Rattle.links.specs.Plans.{planned}
 use Rattle.links.specs.Wires.{bytes_of}
 use Rattle.links.proofs.Places.{one_later}
