@@ -1,6 +1,6 @@
 -- Requests written as lines, and what is proved of reading lines.
 use Rattle.std.specs.Prelude.{◌≡◌, ℕ, ◌+◌, ◌/◌, ◌%◌, ◌<◌, ◌≤◌, cond, List, [], ◌∷◌, ◌++◌, Some, Ok, Err, codes, decimal, ◌≢◌, nat_lt}
-use Rattle.std.specs.List.{AllByRecursion as All}
+use Rattle.std.specs.List.{AllByRecursion}
 use Rattle.script.specs.declared.StoreKind.{StoreKind}
 use Rattle.script.specs.declared.StoreKind.TheVariants.{Flat, Log}
 use Rattle.script.specs.declared.fault.Fault.TheVariants.{OutOfMemory}
@@ -57,7 +57,7 @@ abbrev pub written : Asked → List ℕ
 written a = spaced (request_words a)
 
 abbrev pub Bytes : List ℕ → Type 0
-Bytes xs = All (λ x. x < 256) xs
+Bytes xs = AllByRecursion (λ x. x < 256) xs
 
 abbrev pub FillingFits : Filling → Type 0
 FillingFits zeros = Unit {0}
