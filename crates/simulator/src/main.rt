@@ -16,7 +16,7 @@ mod options;
 
 fn main(rt: HostRuntime) -> ExitCode {
     match run(&rt) {
-        Ok(()) => ExitCode::SUCCESS,
+        Ok(status) => status,
         Err(error) => {
             // where no message can be written, the status tells
             let _ = eprintln!(rt; "simulator: {error}");
@@ -25,23 +25,30 @@ fn main(rt: HostRuntime) -> ExitCode {
     }
 }
 
-fn run(rt: &HostRuntime) -> anyhow::Result<()> {
+fn run(rt: &HostRuntime) -> anyhow::Result<ExitCode> {
     let Options { strict, script } = options::from_args(env::args(rt)?)?;
     let errors = match script {
         Some(path) => serve_file(rt, path.as_str())?,
-        None => serve(rt, BufReader::new(rt.alloc(), rt.stdin())?)?,
+        None => Some(serve(rt, BufReader::new(rt.alloc(), rt.stdin())?)?),
+    };
+    let Some(errors) = errors else {
+        return Ok(ExitCode::FAILURE);
     };
     if strict && errors > 0 {
         return Err(anyhow!("a line was in error"));
     }
-    Ok(())
+    Ok(ExitCode::SUCCESS)
 }
 
-// The whole file is read first, so that nothing runs of one that cannot be read.
-fn serve_file(rt: &HostRuntime, path: &str) -> anyhow::Result<u64> {
+// The whole file is read first, so that nothing runs of one that cannot be read. Why it cannot is told here, since an error of
+// `anyhow` keeps no more than 120 bytes, and a path may be longer.
+fn serve_file(rt: &HostRuntime, path: &str) -> anyhow::Result<Option<u64>> {
     match fs::read(rt, path) {
-        Ok(text) => serve(rt, text.as_slice()),
-        Err(error) => Err(anyhow!(format!(in rt.alloc(); "cannot read {path}: {error}")?)),
+        Ok(text) => Ok(Some(serve(rt, text.as_slice())?)),
+        Err(error) => {
+            eprintln!(rt; "simulator: cannot read {path}: {error}")?;
+            Ok(None)
+        }
     }
 }
 
