@@ -1,7 +1,6 @@
 -- The register over the bits of a byte, and over a message in two parts.
-use Rattle.std.proofs.Common.{◌≡◌, ℕ, zero, suc, ◌+◌, ◌-◌, ◌<◌, List, [], ◌∷◌, ◌++◌, length, get_or, take, fold, sym, refl, ap, ◌∙◌}
+use Rattle.std.proofs.Common.{◌≡◌, ℕ, zero, suc, ◌-◌, List, [], ◌∷◌, ◌++◌, fold, sym, refl, ap, ◌∙◌}
 use Rattle.std.proofs.iter.runs.Lists.{fold-append}
-use Rattle.std.proofs.lemmas.List.{take_more}
 use Rattle.checksum.specs.Checksum.{bit_at, bits_of}
 
 -- The register after the first n bits of the byte x, where bit `place i` is sent at turn i.
@@ -24,8 +23,8 @@ goes_on step order r (x ∷ xs) ys =
     ∙ goes_on step order (fold step r (order x)) xs ys
     ∙ ap (λ s. fold step s (bits_of order ys)) (sym (fold-append step r (order x) (bits_of order xs)))
 
--- One byte more of a message.
-pub one_more_is : (step : ℕ → ℕ → ℕ) (order : ℕ → List ℕ) (r : ℕ) (xs : List ℕ) (i : ℕ) → i < length xs
-    → fold step r (bits_of order (take (i + 1) xs)) ≡ fold step (fold step r (bits_of order (take i xs))) (bits_of order (get_or xs i 0 ∷ []))
-one_more_is step order r xs i h =
-    ap (λ ys. fold step r (bits_of order ys)) (take_more xs i 0 h) ∙ goes_on step order r (take i xs) (get_or xs i 0 ∷ [])
+-- The register over the bits of a message goes by its bytes.
+pub by_byte : (step : ℕ → ℕ → ℕ) (order : ℕ → List ℕ) (r : ℕ) (xs : List ℕ)
+    → fold (λ r x. fold step r (order x)) r xs ≡ fold step r (bits_of order xs)
+by_byte step order r [] = refl
+by_byte step order r (x ∷ xs) = by_byte step order (fold step r (order x)) xs ∙ sym (fold-append step r (order x) (bits_of order xs))

@@ -4,8 +4,9 @@ use Rattle.std.proofs.lemmas.List.{take_at, drop_at}
 use Rattle.std.proofs.lemmas.Bool.{and_from, cond-true, eq-eqb, le-leb, lt-ltb, or_left, or_right}
 use Rattle.command.specs.declared.status.Status.{Status}
 use Rattle.command.specs.declared.status.Status.TheVariants.{Normal, WrongLength, WrongClass, WrongInstruction, WrongParameters, NotAllowed}
+use Rattle.command.specs.Blocks.{user_end}
 use Rattle.command.specs.Orders as taken
-use Rattle.command.specs.Orders.{asked_by, answered, status_bytes, up_to, user_end}
+use Rattle.command.specs.Orders.{asked_by, answered, status_bytes, up_to}
 use Rattle.command.specs.Laws.{Command, select, read, update, le_bytes, command_bytes, InRange, parts, data_of, status_of, status_word}
 
 up_to_is : (most n : ℕ) → 1 ≤ n → n ≤ most → up_to most n ≡ true

@@ -1,4 +1,3 @@
 pub mod Blocks
 mod Codec
-mod Parts
 pub mod Ranges

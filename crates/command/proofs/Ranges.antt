@@ -1,7 +1,8 @@
 -- What a command asks lies in the user blocks. Assumes nothing.
 use Rattle.std.proofs.Common.{◌≡◌, ℕ, ◌+◌, ◌≤◌, true, ◌&&◌, ◌||◌, eqb, ltb, leb, List, length, get_or, drop, arith, length-drop}
 use Rattle.std.proofs.lemmas.Bool.{and_parts, cond_both, eqb-true, leb-true}
-use Rattle.command.specs.Orders.{address, asked_by, in_user, instructed, read_of, select_of, update_of, up_to, user_end, Within}
+use Rattle.command.specs.Blocks.{user_end}
+use Rattle.command.specs.Orders.{address, asked_by, in_user, instructed, read_of, select_of, update_of, up_to, Within}
 
 sized : (n : ℕ) → up_to 251 n ≡ true → (1 ≤ n) × (n ≤ 251)
 sized n e = let k = and_parts (leb 1 n) (leb n 251) e in (leb-true 1 n k.0, leb-true n 251 k.1)

@@ -2,8 +2,11 @@
 use Rattle.std.specs.Prelude.{ℕ, zero, suc, ◌+◌, ◌-◌, Bool, false, not, ◌||◌, List}
 use Rattle.memory.specs.Memory.{block_of}
 use Rattle.system.specs.Protection.{may_read, may_write}
-use Rattle.command.specs.declared.access.Access.{Access}
-use Rattle.command.specs.declared.access.Access.TheVariants.{Read, Write}
+
+-- what a frame would do to a block
+pub data Access : Type 0 where
+  Read : Access
+  Write : Access
 
 -- the block that a frame may not read, or may not write
 abbrev pub barred : Access → List ℕ → ℕ → Bool

@@ -2,8 +2,9 @@
 use Rattle.std.specs.Prelude.{◌≡◌, ℕ, ◌+◌, ◌-◌, ◌/◌, ◌%◌, ◌<◌, ◌≤◌, cond, ◌&&◌, List, [], ◌∷◌, ◌++◌, length, take, drop, Some, None, Option, ◌==◌, nat_eq, slice_index}
 use Rattle.command.specs.declared.status.Status.{Status}
 use Rattle.command.specs.declared.status.Status.TheVariants.{Normal, WrongLength, WrongClass, WrongInstruction, WrongParameters, NotAllowed}
+use Rattle.command.specs.Blocks.{user_end}
 use Rattle.command.specs.Orders as taken
-use Rattle.command.specs.Orders.{Asked, answered, asked_by, status_bytes, user_end, Within}
+use Rattle.command.specs.Orders.{Asked, answered, asked_by, status_bytes, Within}
 
 -- a command as a reader puts it together: SELECT with P1, P2, a name and perhaps Le; a read of n bytes, or an update, from the address a on
 pub data Command : Type 0 where

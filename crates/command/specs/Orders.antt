@@ -1,7 +1,6 @@
 -- A command taken apart: the rules in the order in which they are checked. Assumes nothing.
 use Rattle.std.specs.Prelude.{ℕ, ◌+◌, ◌*◌, ◌%◌, ◌≤◌, Bool, cond, ◌&&◌, ◌||◌, List, [], ◌∷◌, length, drop, ◌==◌, nat_le, nat_lt, slice_index, slice_index_or}
-use Rattle.command.specs.declared.order.Order.{Order}
-use Rattle.command.specs.declared.order.Order.TheVariants.{Answered, Read, Update}
+use Rattle.command.specs.Blocks.{user_end}
 use Rattle.command.specs.declared.status.Status.{Status}
 use Rattle.command.specs.declared.status.Status.TheVariants.{Normal, WrongLength, WrongClass, WrongInstruction, WrongParameters, NotAllowed}
 
@@ -19,16 +18,6 @@ pub data Asked : Type 0 where
   answered : Status → Asked
   read : (a n : ℕ) → Asked
   update : (a : ℕ) (d : List ℕ) → Asked
-
--- what the code gives, with data as bytes
-abbrev pub asked : Order → Asked
-asked (Answered s) = answered s
-asked (Read start n) = read start n
-asked (Update start d) = update start d.now
-
--- the last user block, 26, ends before this address
-abbrev pub user_end : ℕ
-user_end = 432
 
 -- the address is P1's low half times 256, plus P2
 abbrev pub address : List ℕ → ℕ

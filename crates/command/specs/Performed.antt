@@ -1,15 +1,9 @@
 -- What a command answers and does. Assumes nothing.
-use Rattle.std.specs.Prelude.{ℕ, cond, List, ◌++◌, length, take}
+use Rattle.std.specs.Prelude.{ℕ, cond, List, ◌++◌, length}
 use Rattle.memory.specs.Memory.{Memory, bytes_from, with_bytes}
-use Rattle.command.specs.declared.access.Access.TheVariants.{Read, Write}
-use Rattle.command.specs.declared.answer.Answer.{Answer}
 use Rattle.command.specs.declared.status.Status.TheVariants.{Normal, NotAllowed}
-use Rattle.command.specs.Barred.{barred, touches}
+use Rattle.command.specs.Barred.{Read, Write, barred, touches}
 use Rattle.command.specs.Orders.{Asked, answered, read, update, status_bytes}
-
--- the bytes of an answer
-abbrev pub whole : Answer → List ℕ
-whole a = take a.len a.bytes
 
 -- what is answered, with block 31 as x and the memory m: 6F 00 where a block is barred; else the data that was read, if any, and 90 00
 abbrev pub answer_to : List ℕ → Memory → Asked → List ℕ

@@ -1,13 +1,12 @@
 //! The command layer: a command is taken apart into an order, and performed on any store under the protection of block 31.
 #![tactic(auto)]
 
-mod access;
 mod answer;
-mod answering;
 mod laws;
 mod order;
 mod parsing;
 mod performing;
+mod span;
 mod status;
 
 pub use answer::Answer;
@@ -15,4 +14,5 @@ pub use laws::{answers_return, commands_return, ranges_within};
 pub use order::Order;
 pub use parsing::parse;
 pub use performing::perform;
+pub use span::{Span, Update};
 pub use status::Status;

@@ -1,10 +1,10 @@
-use crate::status::Status;
+use crate::span::{Span, Update};
 
-// What a command asks. The data of an update is lent from the command.
-#[derive(Clone, Copy)]
+// What a command asks.
+#[derive(Clone, Copy, Debug, PartialEq, Eq)]
 pub enum Order<'a> {
-    // a status is the whole answer: a command that is refused, or a SELECT, which does nothing
-    Answered(Status),
-    Read { start: u16, count: u8 },
-    Update { start: u16, data: &'a [u8] },
+    // it does nothing, whatever it names
+    Select,
+    Read(Span),
+    Update(Update<'a>),
 }

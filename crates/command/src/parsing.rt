@@ -1,101 +1,84 @@
-ghost use Rattle.std.specs.Prelude.{◌≡◌, ◌≤◌, true, false, length, MatchOption, slice_index};
-ghost use Rattle.command.specs.Orders.{Within, address, asked, asked_by, in_user, instructed, read_of, select_of, update_of};
+ghost use Rattle.std.specs.Prelude.{◌≡◌, ◌≤◌, true, false, [], ◌∷◌};
+ghost use Rattle.std.specs.Result.{MatchResult};
+ghost use Rattle.command.specs.declared.status.Status.TheVariants.{WrongParameters};
+ghost use Rattle.command.specs.Orders.{address, asked_by, in_user, read_of, select_of, update_of};
+ghost use Rattle.command.specs.View.{asked};
 
 use crate::order::Order;
+use crate::span::{Span, Update};
 use crate::status::Status;
+use memory::Address;
 
 // What a command asks. The first check that fails gives the status.
-pub fn parse<'a>(command: &'a [u8]) -> Order<'a>
-    ensures value { asked result ≡ asked_by command.now }
-    ensures within { Within (asked result) }
+#[tactic(auto, unfolding(crate::specs::Orders::asked_by))]
+pub fn parse(command: &[u8]) -> Result<Order<'_>, Status>
+    ensures { asked result ≡ asked_by command.now }
 {
-    if command.len() < 4 || command.len() > 256 {
-        return Order::Answered(Status::WrongLength);
+    if command.len() > 256 {
+        return Err(Status::WrongLength);
     }
-    if command[0] != 0x00 {
-        return Order::Answered(Status::WrongClass);
+    match command {
+        [0x00, 0xA4, _, _, ..] => select(command),
+        [0x00, 0xB0, _, _, ..] => read_binary(command),
+        [0x00, 0xD6, _, _, ..] => update_binary(command),
+        [0x00, _, _, _, ..] => Err(Status::WrongInstruction),
+        [_, _, _, _, ..] => Err(Status::WrongClass),
+        _ => Err(Status::WrongLength),
     }
-    by_instruction(command)
-}
-
-fn by_instruction<'a>(command: &'a [u8]) -> Order<'a>
-    requires { 4 ≤ length command.now }
-    ensures value { asked result ≡ instructed command.now }
-    ensures within { Within (asked result) }
-{
-    match command[1] {
-        0xA4 => select(command),
-        0xB0 => read_binary(command),
-        0xD6 => update_binary(command),
-        _ => Order::Answered(Status::WrongInstruction),
-    }
-}
-
-// Lc or Le, the fifth byte: 0 where it is missing, which no command may have.
-fn length_byte(command: &[u8]) -> u8
-    ensures { result ≡ slice_index command.now 4 }
-{
-    if command.len() > 4 { command[4] } else { 0 }
-}
-
-// The address that P1 and P2 name, if the `count` bytes from it on lie in user blocks.
-fn start(command: &[u8], count: u8) -> Option<u16>
-    requires { 4 ≤ length command.now }
-    ensures { MatchOption result (in_user command.now count ≡ false) (λ a. (in_user command.now count ≡ true) × (a ≡ address command.now)) }
-{
-    let at = (command[2] % 16) as u16 * 256 + command[3] as u16;
-    if command[2] >= 16 || at + count as u16 > 432 {
-        return None;
-    }
-    Some(at)
 }
 
 // A4. It does nothing, whatever it names.
-fn select<'a>(command: &'a [u8]) -> Order<'a>
-    requires { 4 ≤ length command.now }
-    ensures value { asked result ≡ select_of command.now }
-    ensures within { Within (asked result) }
+fn select(command: &[u8]) -> Result<Order<'_>, Status>
+    ensures { asked result ≡ select_of command.now }
 {
-    if command[2] >= 128 {
-        return Order::Answered(Status::WrongParameters);
-    }
-    let lc = length_byte(command) as usize;
-    if 1 <= lc && lc <= 16 && (command.len() == 5 + lc || command.len() == 6 + lc) {
-        Order::Answered(Status::Normal)
-    } else {
-        Order::Answered(Status::WrongLength)
+    match command {
+        [_, _, (128..), ..] => Err(Status::WrongParameters),
+        [_, _, _, _, lc @ 1..=16, rest @ ..]
+            if rest.len() == *lc as usize || rest.len() == *lc as usize + 1 => Ok(Order::Select),
+        _ => Err(Status::WrongLength),
     }
 }
 
 // B0.
-fn read_binary<'a>(command: &'a [u8]) -> Order<'a>
-    requires { 4 ≤ length command.now }
-    ensures value { asked result ≡ read_of command.now }
-    ensures within { Within (asked result) }
+fn read_binary(command: &[u8]) -> Result<Order<'_>, Status>
+    ensures { asked result ≡ read_of command.now }
 {
-    let le = length_byte(command);
-    if command.len() != 5 || le < 1 || le > 251 {
-        return Order::Answered(Status::WrongLength);
-    }
-    match start(command, le) {
-        Some(start) => Order::Read { start, count: le },
-        None => Order::Answered(Status::WrongParameters),
+    match command {
+        [_, _, p1, p2, le @ 1..=251] => Ok(Order::Read(span(*p1, *p2, *le)?)),
+        _ => Err(Status::WrongLength),
     }
 }
 
 // D6.
-fn update_binary<'a>(command: &'a [u8]) -> Order<'a>
-    requires { 4 ≤ length command.now }
-    ensures value { asked result ≡ update_of command.now }
-    ensures within { Within (asked result) }
+fn update_binary(command: &[u8]) -> Result<Order<'_>, Status>
+    ensures { asked result ≡ update_of command.now }
 {
-    let lc = length_byte(command);
-    if command.len() != 5 + lc as usize || lc < 1 || lc > 251 {
-        return Order::Answered(Status::WrongLength);
+    match command {
+        [_, _, p1, p2, lc @ 1..=251, data @ ..] if data.len() == *lc as usize => {
+            Ok(Order::Update(Update {
+                span: span(*p1, *p2, *lc)?,
+                data,
+            }))
+        }
+        _ => Err(Status::WrongLength),
     }
-    let (_, data) = command.split_at(5);
-    match start(command, lc) {
-        Some(start) => Order::Update { start, data },
-        None => Order::Answered(Status::WrongParameters),
+}
+
+// The `count` bytes from the address on that P1 and P2 name, if they lie in user blocks. Where one of P1's upper four bits is set they do not.
+fn span(p1: u8, p2: u8, count: u8) -> Result<Span, Status>
+    requires some { 1 ≤ count }
+    requires few { count ≤ 251 }
+    ensures { let c = 0 ∷ 0 ∷ p1 ∷ p2 ∷ [] in
+        MatchResult result
+        (λ s. (in_user c count ≡ true) × (s.start.at ≡ address c) × (s.count ≡ count))
+        (λ e. (in_user c count ≡ false) × (e ≡ WrongParameters)) }
+{
+    let start = Address::try_from(u16::from_be_bytes([p1, p2]))?;
+    if start.value() + u16::from(count) > 432 {
+        return Err(Status::WrongParameters);
     }
+    Ok(Span {
+        start,
+        count: usize::from(count),
+    })
 }

@@ -1,76 +1,53 @@
-ghost use Rattle.std.specs.Prelude.{◌≡◌, ◌+◌, ◌≤◌, ◌++◌};
-ghost use Rattle.memory.specs.Memory.{bytes_from, memory_size};
-ghost use Rattle.command.specs.Orders.{Within, asked_by, read, status_bytes, update};
+ghost use Rattle.std.specs.Prelude.{◌≡◌, ◌++◌};
+ghost use Rattle.buffer.specs.Held.{held};
+ghost use Rattle.memory.specs.Memory.{bytes_from};
+ghost use Rattle.command.specs.Orders as orders;
+ghost use Rattle.command.specs.Orders.{asked_by, status_bytes};
 ghost use Rattle.command.specs.declared.status.Status.TheVariants.{Normal};
-ghost use Rattle.command.specs.Performed.{answer_to, memory_after, whole};
+ghost use Rattle.command.specs.Performed.{answer_to, memory_after};
 
-use crate::access::Access;
-use crate::answer::Answer;
+use crate::answer::{Answer, with_data};
 use crate::order::Order;
 use crate::parsing::parse;
+use crate::span::{Span, Update};
 use crate::status::Status;
-use memory::{Address, Store, read_bytes, write_bytes};
+use memory::{Store, read_bytes, write_bytes};
 use system::Protection;
 
 // Performs a command on the store, and says what it answers.
 pub fn perform<S: Store>(store: &mut S, protection: &Protection, command: &[u8]) -> Answer
-    ensures answer { whole result ≡ answer_to protection.now.bytes (S.blocks store.old) (asked_by command.now) }
+    ensures answer { held result ≡ answer_to protection.now.bytes (S.blocks store.old) (asked_by command.now) }
     ensures memory { S.blocks store.new ≡ memory_after protection.now.bytes (S.blocks store.old) (asked_by command.now) }
 {
     match parse(command) {
-        Order::Answered(status) => Answer::of_status(status),
-        Order::Read { start, count } => read_binary(store, protection, start, count),
-        Order::Update { start, data } => {
-            Answer::of_status(update_binary(store, protection, start, data))
-        }
+        Ok(Order::Select) => Answer::from(Status::Normal),
+        Ok(Order::Read(span)) => read_binary(store, protection, span),
+        Ok(Order::Update(update)) => Answer::from(update_binary(store, protection, update)),
+        Err(status) => Answer::from(status),
     }
 }
 
-// `parse` lets only ranges through that lie in the memory, so here and below no address and no range is refused.
-fn read_binary<S: Store>(store: &S, protection: &Protection, start: u16, count: u8) -> Answer
-    requires { Within (read start count) }
-    ensures { whole result ≡ answer_to protection.now.bytes (S.blocks store.now) (read start count) }
+// The bytes of the span and 90 00, or 6F 00. Store and protection stay two parameters, here and below: a type that lends both would
+// lend the store to be written, and a read only reads it.
+fn read_binary<S: Store>(store: &S, protection: &Protection, span: Span) -> Answer
+    ensures { held result ≡ answer_to protection.now.bytes (S.blocks store.now) (orders.read span.start.at span.count) }
 {
-    let Some(start) = Address::new(start) else {
-        return Answer::of_status(Status::WrongParameters);
-    };
-    if Access::Read.is_refused(protection, start, count as usize) {
-        return Answer::of_status(Status::NotAllowed);
+    if span.any_block(|block| !protection.may_read(block)) {
+        return Answer::from(Status::NotAllowed);
     }
-    data_from(store, start, count as usize)
+    let mut bytes = [0; 251];
+    let data = &mut bytes[0..span.count];
+    read_bytes(store, span.start, data).unwrap();
+    with_data(data, Status::Normal)
 }
 
-// The bytes from an address on, and 90 00.
-fn data_from<S: Store>(store: &S, start: Address, count: usize) -> Answer
-    requires few { count ≤ 251 }
-    requires within { start.at + count ≤ memory_size }
-    ensures { whole result ≡ bytes_from (S.blocks store.now) start.at count ++ status_bytes Normal }
+fn update_binary<S: Store>(store: &mut S, protection: &Protection, update: Update<'_>) -> Status
+    ensures answer { status_bytes result ≡ answer_to protection.now.bytes (S.blocks store.old) (orders.update update.entry.span.start.at update.entry.data.now) }
+    ensures memory { S.blocks store.new ≡ memory_after protection.now.bytes (S.blocks store.old) (orders.update update.entry.span.start.at update.entry.data.now) }
 {
-    let mut data = [0; 256];
-    match read_bytes(store, start, &mut data[0..count]) {
-        Ok(()) => Answer::with_data(&data, count, Status::Normal),
-        Err(_) => Answer::of_status(Status::WrongParameters),
-    }
-}
-
-fn update_binary<S: Store>(
-    store: &mut S,
-    protection: &Protection,
-    start: u16,
-    data: &[u8],
-) -> Status
-    requires { Within (update start «data».now) }
-    ensures answer { status_bytes result ≡ answer_to protection.now.bytes (S.blocks store.old) (update start «data».now) }
-    ensures memory { S.blocks store.new ≡ memory_after protection.now.bytes (S.blocks store.old) (update start «data».now) }
-{
-    let Some(start) = Address::new(start) else {
-        return Status::WrongParameters;
-    };
-    if Access::Write.is_refused(protection, start, data.len()) {
+    if update.span.any_block(|block| !protection.may_write(block)) {
         return Status::NotAllowed;
     }
-    match write_bytes(store, start, data) {
-        Ok(()) => Status::Normal,
-        Err(_) => Status::WrongParameters,
-    }
+    write_bytes(store, update.span.start, update.data).unwrap();
+    Status::Normal
 }

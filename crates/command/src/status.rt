@@ -1,8 +1,11 @@
 ghost use Rattle.std.specs.Prelude.{◌≡◌};
 ghost use Rattle.command.specs.Orders.{status_bytes};
+ghost use Rattle.command.specs.declared.status.Status.TheVariants.{WrongParameters};
+
+use memory::PastEnd;
 
 // How a command went.
-#[derive(Clone, Copy)]
+#[derive(Clone, Copy, PartialEq, Eq, Debug)]
 pub enum Status {
     Normal,
     WrongLength,
@@ -14,7 +17,7 @@ pub enum Status {
 }
 
 impl Status {
-    // SW1 and SW2, the last two bytes of each answer.
+    // SW1 and SW2, the last two bytes of each answer. (A method and no `From`: its name says which two bytes these are.)
     pub fn bytes(self) -> [u8; 2]
         ensures { result ≡ status_bytes self }
     {
@@ -26,5 +29,14 @@ impl Status {
             Status::WrongParameters => [0x6A, 0x86],
             Status::NotAllowed => [0x6F, 0x00],
         }
+    }
+}
+
+// An address past the memory is a wrong parameter.
+impl From<PastEnd> for Status {
+    ghost from_gives = { λ _ status. status ≡ WrongParameters };
+
+    fn from(_: PastEnd) -> Status {
+        Self::WrongParameters
     }
 }

@@ -1,11 +1,9 @@
 ghost use Rattle.console.specs.Devices.{Holds, Loaded, start_of};
-ghost use Rattle.stores.specs.Flat.{flat_blocks};
-ghost use Rattle.stores.specs.Log.{log_blocks};
 
 use crate::device::Device;
 use memory::Refusal;
 use script::{Contents, StoreKind};
-use stores::{FlatStore, LogStore};
+use stores::Load;
 use system::example_image;
 use tag::Tag;
 
@@ -15,28 +13,19 @@ impl Device {
         ensures { Loaded store (start_of contents.now) result }
     {
         match store {
-            StoreKind::Flat => Ok(Device::Flat(Tag::new(flat_store(contents)?))),
-            StoreKind::Log => Ok(Device::Log(Tag::new(log_store(contents)?))),
+            StoreKind::Flat => Ok(Device::Flat(Tag::new(store_of(contents)?))),
+            StoreKind::Log => Ok(Device::Log(Tag::new(store_of(contents)?))),
         }
     }
 }
 
-fn flat_store(contents: &Contents) -> Result<FlatStore, Refusal>
-    ensures { Holds flat_blocks (start_of contents.now) result }
+// A store that holds what a tag is to start with.
+fn store_of<S: Load>(contents: &Contents) -> Result<S, Refusal>
+    ensures { Holds S.blocks (start_of contents.now) result }
 {
     match contents {
-        Contents::Zeros => Ok(FlatStore::zeros()),
-        Contents::Example => FlatStore::load(&example_image()),
-        Contents::Image(image) => FlatStore::load(image.as_slice()),
-    }
-}
-
-fn log_store(contents: &Contents) -> Result<LogStore, Refusal>
-    ensures { Holds log_blocks (start_of contents.now) result }
-{
-    match contents {
-        Contents::Zeros => Ok(LogStore::zeros()),
-        Contents::Example => LogStore::load(&example_image()),
-        Contents::Image(image) => LogStore::load(image.as_slice()),
+        Contents::Zeros => Ok(S::zeros()),
+        Contents::Example => S::load(&example_image()),
+        Contents::Image(image) => S::load(image.as_slice()),
     }
 }

@@ -7,7 +7,7 @@ use runner::{Answer, Call, perform};
 use script::Request;
 use std::alloc::{AllocError, Global};
 
-// The call on the tag that a line asks for, if it asks for just one.
+// The call on the tag that a line asks for, if it asks for just one. Both types are other crates', so no conversion trait can be implemented here.
 pub fn call_of<'a>(request: &'a Request) -> Option<Call<'a>>
     ensures { told_call result ≡ call_of request.now }
 {
@@ -45,19 +45,13 @@ pub fn block_read<'a>(block: u16) -> Call<'a>
 }
 
 impl Device {
-    // Performs one call of any kind, and hands the device back.
-    pub fn perform(self, heap: Global, call: &Call<'_>) -> (Device, Result<Answer, AllocError>)
-        ensures { Obeyed self call.now result.1 result.0 }
+    // Performs one call of any kind.
+    pub fn perform(&mut self, heap: Global, call: &Call<'_>) -> Result<Answer, AllocError>
+        ensures { Obeyed self.old call.now result self.new }
     {
         match self {
-            Device::Flat(mut tag) => {
-                let answer = perform(heap, &mut tag, call);
-                (Device::Flat(tag), answer)
-            }
-            Device::Log(mut tag) => {
-                let answer = perform(heap, &mut tag, call);
-                (Device::Log(tag), answer)
-            }
+            Device::Flat(tag) => perform(heap, tag, call),
+            Device::Log(tag) => perform(heap, tag, call),
         }
     }
 }

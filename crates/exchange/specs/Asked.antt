@@ -1,14 +1,9 @@
 -- One exchange, without the checksums. Assumes nothing.
-use Rattle.std.specs.Prelude.{◌≡◌, ℕ, ◌+◌, Bool, true, false, List, Some, None, Option}
+use Rattle.std.specs.Prelude.{◌≡◌, ℕ, ◌+◌, List, Option}
 use Rattle.reply.specs.Frames.{type_b_frame}
 use Rattle.type_b.specs.Frames.{kind_of}
 use Rattle.link.specs.declared.delivery.Delivery.{Delivery}
 use Rattle.link.specs.Exchanges.{LinkState, heard, exchanged}
-
--- bytes that were made or came, if any were
-abbrev pub given : Bool → List ℕ → Option (List ℕ)
-given false bytes = None
-given true bytes = Some bytes
 
 -- a body was sent as a frame, and the body of a reply was heard or not
 pub record Asked {L : Type 0} (state : L → LinkState) (may : L → ℕ → Delivery → Type 0) (l : L) (body : List ℕ) (r : Option (List ℕ)) (l' : L) : Type 0 where

@@ -2,8 +2,5 @@
 #![tactic(auto)]
 
 mod asking;
-mod buffer;
-mod writing;
 
 pub use asking::ask;
-pub use buffer::Buffer;

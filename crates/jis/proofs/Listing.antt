@@ -1,9 +1,11 @@
 -- A block list, element by element. Assumes nothing.
 use Rattle.std.proofs.Common.{◌≡◌, ℕ, zero, suc, ◌+◌, ◌-◌, ◌/◌, ◌%◌, ◌<◌, ◌≤◌, Bool, true, ◌&&◌, ◌||◌, eqb, leb, List, ◌∷◌, length, get_or, take, drop, sym, refl, ap, ◌∙◌, ap₂, add-zero, arith, length-drop}
-use Rattle.std.proofs.lemmas.List.{get_or-drop, get_or-take, drop-drop, drop-take, length-take-le}
+use Rattle.std.proofs.lemmas.List.{get_or-drop, get_or-take, drop-drop, drop-take}
 use Rattle.std.proofs.lemmas.Bool.{and_parts, leb-true}
 use Rattle.std.proofs.lemmas.Bool.Decides.{nat_tests}
-use Rattle.jis.specs.Elements.{size, lawful, rest, width, sound, numbers, Listed, TakenOff}
+use Rattle.jis.specs.declared.blocks.Blocks.{Blocks}
+use Rattle.jis.specs.Walk.{numbers_left}
+use Rattle.jis.specs.Elements.{size, lawful, rest, width, sound, numbers, TakenOff}
 
 pub size_ge : (d0 : ℕ) → 2 ≤ size d0
 size_ge d0 = grind (arith, nat_tests)
@@ -81,7 +83,6 @@ pub numbers_length : (m : ℕ) (xs : List ℕ) → length (numbers m xs) ≡ m
 numbers_length zero xs = refl
 numbers_length (suc m) xs = ap suc (numbers_length m (rest xs))
 
--- the part of a payload that the first m elements make is a list that a command may have
-pub listed_front : (m w : ℕ) (xs : List ℕ) → m ≤ 15 → w ≡ width m xs → w ≤ length xs → sound m (take w xs) ≡ true → Listed m (take w xs)
-listed_front m w xs few e fits s =
-    record { few = few; whole = width_take m w xs (omega arith) ∙ sym e ∙ sym (length-take-le w xs fits); each = s; named = numbers_length m (take w xs) }
+-- a list has at most 15 blocks
+pub few_left : (b : Blocks) → length (numbers_left b) ≤ 15
+few_left b = omega (arith, numbers_length b.left b.bytes.now, b.few)

@@ -1,5 +1,5 @@
 -- A frame taken apart: the rules in the order in which they are checked. Assumes nothing.
-use Rattle.std.specs.Prelude.{◌≡◌, ℕ, ◌+◌, ◌-◌, ◌*◌, Bool, true, false, cond, ◌&&◌, List, length, take, drop, Ok, Err, Result, ◌==◌, nat_le, nat_lt, slice_index, slice_index_or, slice_range}
+use Rattle.std.specs.Prelude.{ℕ, ◌+◌, ◌-◌, ◌*◌, Bool, true, false, cond, ◌&&◌, List, length, take, drop, Ok, Err, Result, ◌==◌, nat_le, nat_lt, slice_index, slice_index_or, slice_range}
 use Rattle.std.specs.Borrow.{Bor}
 use Rattle.std.specs.Str.{bytes_eq}
 use Rattle.checksum.specs.Checksum.{jis_checksum}
@@ -9,7 +9,7 @@ use Rattle.jis.specs.declared.fault.Access.{Access}
 use Rattle.jis.specs.declared.fault.Access.TheVariants as access
 use Rattle.jis.specs.declared.fault.Fault.{Fault}
 use Rattle.jis.specs.declared.fault.Fault.TheVariants.{Length, Checksum, Code, Shape, ForeignIdentifier, ServiceCount, Truncated, ServicesDiffer, BlockCount, ListEnd, BadElement}
-use Rattle.jis.specs.Elements.{width, sound, Listed}
+use Rattle.jis.specs.Elements.{width, sound}
 
 -- a command by the bytes of its parts
 pub data Asked : Type 0 where
@@ -109,19 +109,12 @@ command_of idm f = on (opened f) (by_code idm)
 
 -- what the code gives, with each part as its bytes
 abbrev pub told : Result Command Fault → Result Asked Fault
-told (Ok (Req code request slot)) = Ok (req code.now request slot)
-told (Ok (Read services count blocks)) = Ok (read services.now count blocks.now)
-told (Ok (Write services count blocks d)) = Ok (write services.now count blocks.now d.now)
+told (Ok (Req code request slot)) = Ok (req code request slot)
+told (Ok (Read services blocks)) = Ok (read services.now blocks.left blocks.bytes.now)
+told (Ok (Write w)) = Ok (write w.services.now w.blocks.left w.blocks.bytes.now w.data.now)
 told (Err e) = Err e
 
 -- likewise for a payload
 abbrev pub lent : Result (Bor (List ℕ)) Fault → Result (List ℕ) Fault
 lent (Ok p) = Ok p.now
 lent (Err e) = Err e
-
--- what a caller may rely on: a block list that it can go through, and 16 bytes of data for each block
-abbrev pub Bounded : Result Command Fault → Type 0
-Bounded (Ok (Req code request slot)) = Unit {0}
-Bounded (Ok (Read services count blocks)) = Listed count blocks.now
-Bounded (Ok (Write services count blocks d)) = Listed count blocks.now × (length d.now ≡ 16 * count)
-Bounded (Err e) = Unit {0}

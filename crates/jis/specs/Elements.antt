@@ -28,13 +28,6 @@ abbrev pub numbers : ℕ → List ℕ → List ℕ
 numbers zero xs = []
 numbers (suc m) xs = slice_index xs 1 ∷ numbers m (rest xs)
 
--- a list of m elements as a command may have it: at most 15, which make the whole list, each lawful, and each with its number
-pub record Listed (m : ℕ) (xs : List ℕ) : Type 0 where
-  pub few : m ≤ 15
-  pub whole : width m xs ≡ length xs
-  pub each : sound m xs ≡ true
-  pub named : length (numbers m xs) ≡ m
-
 -- the first of m elements taken off: its number, and a list of one fewer
 pub record TakenOff (m : ℕ) (xs : List ℕ) (number : ℕ) (ys : List ℕ) : Type 0 where
   pub small : number ≤ 26

@@ -21,16 +21,16 @@ flags_of status.BlockCount = 0xFF ∷ 0xA2 ∷ []
 flags_of status.BadElement = 0xFF ∷ 0xA5 ∷ []
 flags_of status.Protected = 0xFF ∷ 0x60 ∷ []
 
--- a fault meets silence, or is answered with a code and a status
-abbrev pub answer_to : Fault → Option (ℕ × Status)
+-- a fault meets silence, or is answered as a READ or a WRITE with a status
+abbrev pub answer_to : Fault → Option (Access × Status)
 answer_to Length = None
 answer_to Checksum = None
 answer_to Code = None
 answer_to Shape = None
 answer_to ForeignIdentifier = None
-answer_to (ServiceCount a) = Some (answer_code a, status.ServiceCount)
+answer_to (ServiceCount a) = Some (a, status.ServiceCount)
 answer_to Truncated = None
-answer_to (ServicesDiffer a) = Some (answer_code a, status.ServicesDiffer)
-answer_to (BlockCount a) = Some (answer_code a, status.BlockCount)
+answer_to (ServicesDiffer a) = Some (a, status.ServicesDiffer)
+answer_to (BlockCount a) = Some (a, status.BlockCount)
 answer_to ListEnd = None
-answer_to (BadElement a) = Some (answer_code a, status.BadElement)
+answer_to (BadElement a) = Some (a, status.BadElement)

@@ -1,15 +1,15 @@
 ghost use Rattle.std.specs.Prelude.{◌≡◌};
 ghost use Rattle.jis.specs.Faults.{answer_code, answer_to, flags_of};
 
-// The two commands that list blocks.
-#[derive(Clone, Copy)]
+// The two commands that list blocks, with the codes of their answers.
+#[derive(Clone, Copy, Debug, PartialEq, Eq)]
 pub enum Access {
-    Read,
-    Write,
+    Read = 0x07,
+    Write = 0x09,
 }
 
 // How a READ or a WRITE went.
-#[derive(Clone, Copy)]
+#[derive(Clone, Copy, Debug, PartialEq, Eq)]
 pub enum Status {
     Normal,
     ServiceCount,
@@ -21,7 +21,7 @@ pub enum Status {
 }
 
 // Which rule a frame breaks: the first, in the order in which they are checked.
-#[derive(Clone, Copy)]
+#[derive(Clone, Copy, Debug, PartialEq, Eq)]
 pub enum Fault {
     // LEN is under 2, or is not the frame's
     Length,
@@ -46,15 +46,12 @@ impl Access {
     pub fn answer_code(self) -> u8
         ensures { result ≡ answer_code self }
     {
-        match self {
-            Access::Read => 0x07,
-            Access::Write => 0x09,
-        }
+        self as u8
     }
 }
 
 impl Status {
-    // The two flag bytes of the answer.
+    // The two flag bytes of the answer. (A method and no `From`: its name says which two bytes these are.)
     pub fn flags(self) -> [u8; 2]
         ensures { result ≡ flags_of self }
     {
@@ -70,15 +67,15 @@ impl Status {
 }
 
 impl Fault {
-    // What the frame is answered: the answer's code and status, or nothing at all.
-    pub fn answer(self) -> Option<(u8, Status)>
+    // What the frame is answered: the command whose answer it is and the status, or nothing at all.
+    pub fn answer(self) -> Option<(Access, Status)>
         ensures { result ≡ answer_to self }
     {
         match self {
-            Fault::ServiceCount(access) => Some((access.answer_code(), Status::ServiceCount)),
-            Fault::ServicesDiffer(access) => Some((access.answer_code(), Status::ServicesDiffer)),
-            Fault::BlockCount(access) => Some((access.answer_code(), Status::BlockCount)),
-            Fault::BadElement(access) => Some((access.answer_code(), Status::BadElement)),
+            Fault::ServiceCount(access) => Some((access, Status::ServiceCount)),
+            Fault::ServicesDiffer(access) => Some((access, Status::ServicesDiffer)),
+            Fault::BlockCount(access) => Some((access, Status::BlockCount)),
+            Fault::BadElement(access) => Some((access, Status::BadElement)),
             Fault::Length
             | Fault::Checksum
             | Fault::Code

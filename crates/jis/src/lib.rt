@@ -3,7 +3,6 @@
 
 mod answers;
 mod blocks;
-mod bytes;
 mod command;
 mod elements;
 mod fault;
@@ -13,6 +12,6 @@ mod walk;
 
 pub use answers::{write_flags, write_req_answer};
 pub use blocks::Blocks;
-pub use command::Command;
+pub use command::{BlockWrite, Command};
 pub use fault::{Access, Fault, Status};
 pub use frame::taken_apart;

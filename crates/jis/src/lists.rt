@@ -1,22 +1,21 @@
 ghost use Rattle.std.specs.Prelude.{◌≡◌, ◌*◌, ◌≤◌, length};
-ghost use Rattle.jis.specs.Commands.{Bounded, alike, blocks_of, data_width, most_blocks, most_services, services_of, told};
+ghost use Rattle.jis.specs.Commands.{alike, blocks_of, data_width, most_blocks, most_services, services_of, told};
 
-use crate::bytes::is_same;
-use crate::command::Command;
+use crate::blocks::Blocks;
+use crate::command::{BlockWrite, Command};
 use crate::elements::{is_sound, list_width};
 use crate::fault::{Access, Fault};
 
 // The services of a READ or a WRITE, and how many blocks it lists.
 pub(crate) fn services_taken<'a>(access: Access, payload: &'a [u8]) -> Result<Command<'a>, Fault>
     requires { 10 ≤ length payload.now }
-    ensures value { told result ≡ services_of access payload.now }
-    ensures bounds { Bounded result }
+    ensures { told result ≡ services_of access payload.now }
 {
     let k = payload[9] as usize;
     if k < 1 || most_services(access) < k {
         return Err(Fault::ServiceCount(access));
     }
-    let (_, lists) = payload.split_at(10);
+    let lists = &payload[10..];
     if lists.len() <= 2 * k {
         return Err(Fault::Truncated);
     }
@@ -24,45 +23,40 @@ pub(crate) fn services_taken<'a>(access: Access, payload: &'a [u8]) -> Result<Co
     if !is_alike(services) {
         return Err(Fault::ServicesDiffer(access));
     }
-    let m = rest[0] as usize;
+    let m = rest[0];
     if m < 1 || most_blocks(access, k) < m {
         return Err(Fault::BlockCount(access));
     }
-    let (_, body) = rest.split_at(1);
-    blocks_taken(access, services, m, body)
+    blocks_taken(access, services, m, &rest[1..])
 }
 
 // The block list and the data, which are all that follows the number of blocks.
+#[tactic(auto, using(crate::proofs::Listing::width_take))]
 fn blocks_taken<'a>(
     access: Access,
     services: &'a [u8],
-    m: usize,
+    m: u8,
     body: &'a [u8],
 ) -> Result<Command<'a>, Fault>
     requires { m ≤ 15 }
-    ensures value { told result ≡ blocks_of access services.now m body.now }
-    ensures bounds { Bounded result }
+    ensures { told result ≡ blocks_of access services.now m body.now }
 {
     let width = list_width(body, m);
     if width + data_width(access, m) != body.len() {
         return Err(Fault::ListEnd);
     }
-    let (blocks, data) = body.split_at(width);
-    if !is_sound(blocks, m) {
+    let (list, data) = body.split_at(width);
+    if !is_sound(list, m) {
         return Err(Fault::BadElement(access));
     }
+    let blocks = Blocks::new(list, usize::from(m));
     match access {
-        Access::Read => Ok(Command::Read {
+        Access::Read => Ok(Command::Read { services, blocks }),
+        Access::Write => Ok(Command::Write(BlockWrite {
             services,
-            count: m,
-            blocks,
-        }),
-        Access::Write => Ok(Command::Write {
-            services,
-            count: m,
             blocks,
             data,
-        }),
+        })),
     }
 }
 
@@ -75,7 +69,7 @@ fn most_services(access: Access) -> usize
     }
 }
 
-fn most_blocks(access: Access, k: usize) -> usize
+fn most_blocks(access: Access, k: usize) -> u8
     ensures value { result ≡ most_blocks access k }
     ensures bound { result ≤ 15 }
 {
@@ -86,14 +80,13 @@ fn most_blocks(access: Access, k: usize) -> usize
     }
 }
 
-fn data_width(access: Access, m: usize) -> usize
-    requires { m ≤ 15 }
+fn data_width(access: Access, m: u8) -> usize
     ensures value { result ≡ data_width access m }
     ensures bound { result ≤ 16 * m }
 {
     match access {
         Access::Read => 0,
-        Access::Write => 16 * m,
+        Access::Write => 16 * usize::from(m),
     }
 }
 
@@ -102,7 +95,5 @@ fn is_alike(services: &[u8]) -> bool
     requires { 2 ≤ length services.now }
     ensures { result ≡ alike services.now }
 {
-    let (front, _) = services.split_at(services.len() - 2);
-    let (_, back) = services.split_at(2);
-    is_same(back, front)
+    services[2..] == services[..services.len() - 2]
 }

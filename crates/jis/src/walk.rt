@@ -1,28 +1,36 @@
 ghost use Rattle.std.specs.Prelude.{◌≡◌, ◌≤◌, true, length};
-ghost use Rattle.jis.specs.Elements.{Listed, TakenOff, numbers, sound, width};
-ghost use Rattle.jis.specs.Walk.{Next, numbers_left};
+ghost use Rattle.std.specs.Iterator.{YieldsFirstBy, item_count};
+ghost use Rattle.jis.specs.Elements.{TakenOff, numbers, sound, width};
+ghost use Rattle.jis.specs.Walk.{numbers_left};
 
 use crate::blocks::Blocks;
 use crate::elements::element_size;
 use memory::BlockNumber;
 
 impl<'a> Blocks<'a> {
-    // The list of a command: `blocks` and `count` as they were taken apart.
-    pub fn new(blocks: &'a [u8], count: usize) -> Blocks<'a>
-        requires { Listed count blocks.now }
-        ensures items { numbers_left result ≡ numbers count blocks.now }
+    // The list of a command: so many elements, which these bytes make.
+    #[tactic(auto, using(crate::proofs::Listing::numbers_length))]
+    pub fn new(bytes: &'a [u8], count: usize) -> Blocks<'a>
+        requires few { count ≤ 15 }
+        requires whole { width count bytes.now ≡ length bytes.now }
+        requires each { sound count bytes.now ≡ true }
+        ensures items { numbers_left result ≡ numbers count bytes.now }
         ensures len { length (numbers_left result) ≡ count }
+        ensures bytes { result.bytes.now ≡ bytes.now }
+        ensures count { result.left ≡ count }
     {
-        Blocks {
-            bytes: blocks,
-            left: count,
-        }
+        Blocks { bytes, left: count }
     }
+}
 
-    // The next block of the list, until none is left.
-    pub fn next(&mut self) -> Option<BlockNumber>
-        ensures { Next result (numbers_left self.old) (numbers_left self.new) }
-    {
+impl<'a> Iterator for Blocks<'a> {
+    type Item = BlockNumber;
+
+    ghost next_gives = { YieldsFirstBy (λ b. b.index) numbers_left };
+
+    ghost remaining = { item_count numbers_left };
+
+    fn next(&mut self) -> Option<BlockNumber> {
         if self.left == 0 {
             return None;
         }
@@ -33,7 +41,15 @@ impl<'a> Blocks<'a> {
     }
 }
 
+impl<'a> ExactSizeIterator for Blocks<'a> {
+    #[tactic(auto, using(crate::proofs::Listing::numbers_length))]
+    fn len(&self) -> usize {
+        self.left
+    }
+}
+
 // The number of the first element, and the list behind it.
+#[tactic(auto, using(crate::proofs::Listing::first_fits, crate::proofs::Listing::size_ge))]
 fn taken_off<'a>(bytes: &'a [u8], m: usize) -> (u8, &'a [u8])
     requires some { 1 ≤ m }
     requires whole { width m bytes.now ≡ length bytes.now }

@@ -1,4 +1,5 @@
 mod Payloads
+mod Putting
 pub mod Silence
 pub mod Taken
 pub mod Written

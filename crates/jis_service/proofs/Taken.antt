@@ -143,7 +143,3 @@ users (suc n) list s =
     let h = and_parts (lawful (get_or list 0 0) (get_or list 1 0) (get_or list 2 0)) (sound n (rest list)) s in
     let l = and_parts _ (leb (get_or list 1 0) 26) h.0 in
     (omega (arith, leb-true (get_or list 1 0) 26 l.1), users n (rest list) h.1)
-
-pub how_many : (n : ℕ) (list : List ℕ) → length (numbers n list) ≡ n
-how_many zero list = refl
-how_many (suc n) list = ap suc (how_many n (rest list))

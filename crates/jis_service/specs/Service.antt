@@ -4,10 +4,11 @@ use Rattle.std.specs.Str.{bytes_eq}
 use Rattle.memory.specs.Memory.{Memory, block_at, block_size, with_block}
 use Rattle.system.specs.Identity.{system_code, idm, pmm}
 use Rattle.system.specs.Protection.{may_read, may_write}
+use Rattle.jis.specs.declared.fault.Access.{Access}
 use Rattle.jis.specs.declared.fault.Fault.{Fault}
 use Rattle.jis.specs.declared.fault.Status.{Status}
 use Rattle.jis.specs.declared.fault.Status.TheVariants.{Normal, Protected}
-use Rattle.jis.specs.Faults.{answer_to}
+use Rattle.jis.specs.Faults.{answer_code, answer_to}
 use Rattle.jis.specs.Elements.{numbers}
 use Rattle.jis.specs.Answers.{flags_payload, read_payload, req_payload}
 use Rattle.jis.specs.Commands.{Asked, req, read, write, command_of}
@@ -27,9 +28,9 @@ written_in m [] d = m
 written_in m (b ∷ bs) d = written_in (with_block m b (take block_size d)) bs (drop block_size d)
 
 -- a fault is answered by flags, or by silence, which is the empty payload
-abbrev pub fault_payload : List ℕ → Option (ℕ × Status) → List ℕ
+abbrev pub fault_payload : List ℕ → Option (Access × Status) → List ℕ
 fault_payload id None = []
-fault_payload id (Some a) = flags_payload a.0 id a.1
+fault_payload id (Some a) = flags_payload (answer_code a.0) id a.1
 
 -- a REQ for this tag is answered, and any other meets silence
 abbrev pub req_for : List ℕ → List ℕ → ℕ → List ℕ

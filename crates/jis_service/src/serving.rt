@@ -1,23 +1,22 @@
-ghost use Rattle.std.specs.Prelude.{◌≡◌, ◌+◌, ◌*◌, ◌≤◌, [], length, Ok, Err, Option};
-ghost use Rattle.std.specs.Str.{bytes_eq};
+ghost use Rattle.std.specs.Prelude.{◌≡◌};
+ghost use Rattle.buffer.specs.Held.{held};
 ghost use Rattle.system.specs.Identity.{system_code, idm};
 ghost use Rattle.jis.specs.Faults.{answer_to};
 ghost use Rattle.jis.specs.Walk.{numbers_left};
-ghost use Rattle.reply.specs.Held.{held};
 ghost use Rattle.jis_service.specs.Service.{addressed, fault_payload, read_for, req_for, write_for, written_for, reply_payload, memory_after};
 
-use crate::blocks::{may_read_all, may_write_all, push_blocks, write_blocks};
-use jis::{Access, Blocks, Command, Fault, Status, taken_apart, write_flags, write_req_answer};
+use crate::blocks::{push_blocks, write_blocks};
+use jis::{
+    Access, BlockWrite, Blocks, Command, Fault, Status, taken_apart, write_flags, write_req_answer,
+};
 use memory::Store;
-use reply::Reply;
+use reply::Payload;
 use system::{Identity, SystemCopy};
 
-// Serves a frame: the reply holds the payload of the answer, or nothing for silence.
-pub fn serve<S: Store>(store: &mut S, copy: &SystemCopy, frame: &[u8], reply: &mut Reply)
-    requires { held reply.old ≡ [] }
-    ensures said { held reply.new ≡ reply_payload copy.now.identity.bytes copy.now.protection.bytes (S.blocks store.old) frame.now }
+// Serves a frame: the payload of the answer holds nothing where the frame meets silence.
+pub fn serve<S: Store>(store: &mut S, copy: &SystemCopy, frame: &[u8]) -> Payload
+    ensures said { held result ≡ reply_payload copy.now.identity.bytes copy.now.protection.bytes (S.blocks store.old) frame.now }
     ensures memory { S.blocks store.new ≡ memory_after copy.now.identity.bytes copy.now.protection.bytes (S.blocks store.old) frame.now }
-    ensures room { length (held reply.new) ≤ 252 }
 {
     match taken_apart(frame, copy.identity.idm()) {
         Ok(
@@ -26,104 +25,69 @@ pub fn serve<S: Store>(store: &mut S, copy: &SystemCopy, frame: &[u8], reply: &m
                 request,
                 slot: _,
             },
-        ) => serve_req(&copy.identity, system_code, request, reply),
+        ) => serve_req(&copy.identity, system_code, request),
         Ok(
             Command::Read {
                 services: _,
-                count,
                 blocks,
             },
-        ) => serve_read(store, copy, Blocks::new(blocks, count), count, reply),
-        Ok(
-            Command::Write {
-                services: _,
-                count,
-                blocks,
-                data,
-            },
-        ) => serve_write(store, copy, Blocks::new(blocks, count), data, reply),
-        Err(fault) => serve_fault(&copy.identity, fault, reply),
+        ) => serve_read(store, copy, blocks),
+        Ok(Command::Write(write)) => serve_write(store, copy, write),
+        Err(fault) => serve_fault(&copy.identity, fault),
     }
 }
 
-fn same(a: &[u8], b: &[u8]) -> bool
-    ensures { result ≡ bytes_eq a.now b.now }
+fn is_addressed(code: [u8; 2], own: &[u8; 2]) -> bool
+    ensures { result ≡ addressed code own.now }
 {
-    a == b
+    code == [0xFF, 0xFF] || code == [0xAA, 0xFF] && own[0] == 0xAA || code == *own
 }
 
-fn is_addressed(code: &[u8], own: &[u8]) -> bool
-    requires { length own.now ≡ 2 }
-    ensures { result ≡ addressed code.now own.now }
+fn serve_req(identity: &Identity, code: [u8; 2], request: u8) -> Payload
+    ensures { held result ≡ req_for identity.now.bytes code request }
 {
-    same(code, &[0xFF, 0xFF]) || same(code, &[0xAA, 0xFF]) && own[0] == 0xAA || same(code, own)
-}
-
-fn serve_req(identity: &Identity, code: &[u8], request: u8, reply: &mut Reply)
-    requires { held reply.old ≡ [] }
-    ensures said { held reply.new ≡ req_for identity.now.bytes code.now request }
-    ensures room { length (held reply.new) ≤ 252 }
-{
-    if is_addressed(code, identity.system_code()) {
-        write_req_answer(
-            reply,
-            identity.idm(),
-            identity.pmm(),
-            request,
-            identity.system_code(),
-        );
+    let own = identity.system_code();
+    if is_addressed(code, own) {
+        write_req_answer(identity.idm(), identity.pmm(), request, own)
+    } else {
+        Payload::new()
     }
 }
 
-fn serve_read<S: Store>(
-    store: &S,
-    copy: &SystemCopy,
-    list: Blocks<'_>,
-    count: usize,
-    reply: &mut Reply,
-)
-    requires empty { held reply.old ≡ [] }
-    requires all { length (numbers_left list) ≡ count }
-    requires few { count ≤ 15 }
-    ensures said { held reply.new ≡ read_for copy.now.identity.bytes copy.now.protection.bytes (S.blocks store.now) (numbers_left list.entry) }
-    ensures room { length (held reply.new) ≤ 252 }
+// Store and copy stay two parameters: a READ only reads the store, and other commands need only one of the two.
+fn serve_read<S: Store>(store: &S, copy: &SystemCopy, list: Blocks<'_>) -> Payload
+    ensures { held result ≡ read_for copy.now.identity.bytes copy.now.protection.bytes (S.blocks store.now) (numbers_left list.entry) }
 {
-    if !may_read_all(&copy.protection, list) {
-        write_flags(reply, 0x07, copy.identity.idm(), Status::Protected);
-        return;
+    let code = Access::Read.answer_code();
+    let mut listed = list;
+    if !listed.all(|b| copy.protection.may_read(b)) {
+        return write_flags(code, copy.identity.idm(), Status::Protected);
     }
-    write_flags(reply, 0x07, copy.identity.idm(), Status::Normal);
-    let counted = [count as u8];
-    reply.push(&counted);
-    push_blocks(store, list, reply);
+    let mut payload = write_flags(code, copy.identity.idm(), Status::Normal);
+    let count = [list.len() as u8];
+    payload.push(&count);
+    push_blocks(store, list, &mut payload);
+    payload
 }
 
-fn serve_write<S: Store>(
-    store: &mut S,
-    copy: &SystemCopy,
-    list: Blocks<'_>,
-    data: &[u8],
-    reply: &mut Reply,
-)
-    requires { (held reply.old ≡ []) × (length «data».now ≡ 16 * length (numbers_left list)) }
-    ensures said { held reply.new ≡ write_for copy.now.identity.bytes copy.now.protection.bytes (numbers_left list.entry) }
-    ensures memory { S.blocks store.new ≡ written_for copy.now.protection.bytes (S.blocks store.old) (numbers_left list.entry) «data».now }
-    ensures room { length (held reply.new) ≤ 252 }
+fn serve_write<S: Store>(store: &mut S, copy: &SystemCopy, write: BlockWrite<'_>) -> Payload
+    ensures said { held result ≡ write_for copy.now.identity.bytes copy.now.protection.bytes (numbers_left write.entry.blocks) }
+    ensures memory { S.blocks store.new ≡ written_for copy.now.protection.bytes (S.blocks store.old) (numbers_left write.entry.blocks) write.entry.data.now }
 {
-    if !may_write_all(&copy.protection, list) {
-        write_flags(reply, 0x09, copy.identity.idm(), Status::Protected);
-        return;
+    let code = Access::Write.answer_code();
+    let mut listed = write.blocks;
+    if !listed.all(|b| copy.protection.may_write(b)) {
+        return write_flags(code, copy.identity.idm(), Status::Protected);
     }
-    write_blocks(store, list, data);
-    write_flags(reply, 0x09, copy.identity.idm(), Status::Normal);
+    write_blocks(store, write);
+    write_flags(code, copy.identity.idm(), Status::Normal)
 }
 
-fn serve_fault(identity: &Identity, fault: Fault, reply: &mut Reply)
-    requires { held reply.old ≡ [] }
-    ensures said { held reply.new ≡ fault_payload (idm identity.now.bytes) (answer_to fault) }
-    ensures room { length (held reply.new) ≤ 252 }
+fn serve_fault(identity: &Identity, fault: Fault) -> Payload
+    ensures { held result ≡ fault_payload (idm identity.now.bytes) (answer_to fault) }
 {
-    if let Some((code, status)) = fault.answer() {
-        write_flags(reply, code, identity.idm(), status);
+    match fault.answer() {
+        Some((access, status)) => write_flags(access.answer_code(), identity.idm(), status),
+        None => Payload::new(),
     }
 }

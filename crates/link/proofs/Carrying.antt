@@ -1,5 +1,5 @@
 -- A body with its checksum is carried, and nothing else is. Assumes nothing.
-use Rattle.std.proofs.Common.{◌≡◌, ℕ, ◌-◌, ◌≤◌, Bool, true, false, cond, ◌&&◌, leb, List, [], ◌∷◌, ◌++◌, length, take, drop, Some, None, Option, sym, refl, ap, ◌∙◌, arith, length-append}
+use Rattle.std.proofs.Common.{◌≡◌, ℕ, ◌-◌, ◌≤◌, Bool, true, false, cond, ◌&&◌, leb, List, [], ◌∷◌, ◌++◌, length, take, drop, Some, None, sym, refl, ap, ◌∙◌, arith, length-append}
 use Rattle.std.specs.Str.{bytes_eq}
 use Rattle.std.proofs.lemmas.Slice.Eq.{bytes_eq-Decides}
 use Rattle.std.proofs.lemmas.List.{take_at, take-append-drop}
@@ -19,18 +19,11 @@ there (x ∷ p) low most =
     let n : length (x ∷ p) ≡ length f - 2 = omega (arith, length-append (x ∷ p) (crc_b (x ∷ p)), two) in
     cond-true (intact f) (Some (take (length f - 2) f)) None (body_intact x p (omega arith)) ∙ ap Some (take_at (x ∷ p) (crc_b (x ∷ p)) (length f - 2) n)
 
-some_is : (b c : List ℕ) → Some b ≡ Some c → b ≡ c
-some_is b c e = ap (λ o. or b o) e
-  where
-    or : List ℕ → Option (List ℕ) → List ℕ
-    or d None = d
-    or d (Some x) = x
-
 split : (t : Bool) (f b : List ℕ) → intact f ≡ t → cond t (Some (take (length f - 2) f)) None ≡ Some b → f ≡ type_b_frame b
-split false f b t e = let z : ◌≡◌ {A = ℕ} 0 1 = cc in absurd (omega arith)
+split false f b t e = cc
 split true f b t e =
     let body = take (length f - 2) f in
-    let is : body ≡ b = some_is body b e in
+    let is : body ≡ b = cc in
     let same = (and_parts (leb 3 (length f) && leb (length f) 256) (bytes_eq (drop (length f - 2) f) (crc_b body)) t).1 in
     let sum : drop (length f - 2) f ≡ crc_b body = (bytes_eq-Decides (drop (length f - 2) f) (crc_b body)).0 same in
     sym (take-append-drop (length f - 2) f) ∙ ap (λ s. body ++ s) sum ∙ ap type_b_frame is

@@ -1,5 +1,5 @@
 // What becomes of an exchange.
-#[derive(Clone, Copy)]
+#[derive(Clone, Copy, Debug, PartialEq, Eq)]
 pub enum Delivery {
     // the tag never takes the frame
     FrameLost,

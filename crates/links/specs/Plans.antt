@@ -1,5 +1,5 @@
 -- Plans of losses. Assumes nothing.
-use Rattle.std.specs.Prelude.{ℕ, ◌+◌, cond, List, ◌==◌, nat_lt, slice_index_or}
+use Rattle.std.specs.Prelude.{ℕ, cond, List, ◌==◌, slice_index_or}
 use Rattle.link.specs.declared.delivery.Delivery.{Delivery}
 use Rattle.link.specs.declared.delivery.Delivery.TheVariants.{FrameLost, ReplyLost, Complete}
 
@@ -14,7 +14,3 @@ delivery_of b = cond (b == 0x01) FrameLost (cond (b == 0x02) ReplyLost Complete)
 -- a byte for each exchange from the first on; past the end of the plan all passes
 abbrev pub planned : List ℕ → ℕ → Delivery
 planned plan k = delivery_of (slice_index_or plan k 0x00)
-
--- the place behind this one; past the longest plan no place need be told from another
-abbrev pub next_place : ℕ → ℕ
-next_place at = cond (nat_lt at longest_plan) (at + 1) at

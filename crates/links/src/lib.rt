@@ -1,13 +1,11 @@
-//! The two links: one that loses nothing, and one that loses what its plan says.
+//! A link to a tag in hand, over what is lost: nothing, or what a plan says.
 #![tactic(auto)]
 
 mod carrying;
-mod lossless;
+mod losses;
 mod plan;
-mod planned;
-mod planning;
-mod wire;
+mod tag_link;
 
-pub use lossless::Lossless;
+pub use losses::{Losses, NoLosses, PlannedLosses};
 pub use plan::{Plan, PlanTooLong};
-pub use planned::Planned;
+pub use tag_link::{Lossless, Planned, TagLink};

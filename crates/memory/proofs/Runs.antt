@@ -1,5 +1,5 @@
 -- Bytes put into a block, or taken from one, are bytes put or taken from an address on. Assumes nothing.
-use Rattle.std.proofs.Common.{◌≡◌, ℕ, zero, suc, ◌+◌, ◌*◌, ◌/◌, ◌%◌, ◌<◌, ◌≤◌, List, [], ◌∷◌, ◌++◌, length, take, drop, set, sym, refl, ap, ◌∙◌, ap₂, append_assoc, append-nil, add-zero, zero-add, arith, length-drop, length-set, length-take-le, drop-cons, get_or-set_same, drop-drop, take_at, take-add, drop_at, set-set}
+use Rattle.std.proofs.Common.{◌≡◌, ℕ, zero, suc, ◌+◌, ◌-◌, ◌*◌, ◌/◌, ◌%◌, ◌<◌, ◌≤◌, List, [], ◌∷◌, ◌++◌, length, take, drop, set, sym, refl, ap, ◌∙◌, ap₂, append_assoc, append-nil, add-zero, zero-add, arith, length-drop, length-set, length-take-le, drop-cons, get_or-set_same, drop-drop, take_at, take-add, drop_at, set-set}
 use Rattle.std.proofs.lemmas.List.{drop_all}
 use lib.Seq.{sets, sets-eq, set-get_or}
 use borrow.Rule.Slice.PartMut.{put_mid}
@@ -65,7 +65,7 @@ overwritten o k x ys e h =
     ap (λ (z : List ℕ). take o x ++ (ys ++ z)) r ∙ sym (append_assoc (take o x) ys (drop (o + length ys) x)) ∙ sym (sets-eq ys x o l)
 
 -- one turn of a write: n bytes more, into block b from its offset o on
-pub write_turn : (m₀ m : Memory) (a : ℕ) (xs : List ℕ) (k n b o v w : ℕ) (held ys : List ℕ) → Shaped m → m ≡ with_bytes m₀ a (take k xs) → k + n ≤ length xs → 16 * b + o ≡ a + k
+write_turn : (m₀ m : Memory) (a : ℕ) (xs : List ℕ) (k n b o v w : ℕ) (held ys : List ℕ) → Shaped m → m ≡ with_bytes m₀ a (take k xs) → k + n ≤ length xs → 16 * b + o ≡ a + k
     → o + n ≤ 16 → b < 32 → held ≡ block_at m b → v ≡ n → w ≡ n → ys ≡ take v (drop k xs) → set m b (put_mid o w held ys) ≡ with_bytes m₀ a (take (k + n) xs)
 write_turn m₀ m a xs k n b o v w held ys s inv kn at on b< eh ev ew ey =
     let bm : b < length m = omega (arith, s.count) in
@@ -86,7 +86,7 @@ write_turn m₀ m a xs k n b o v w held ys s inv kn at on b< eh ev ew ey =
     ∙ ap (with_bytes m₀ a) (sym (take-add k n xs))
 
 -- one turn of a read: n bytes more, from block b from its offset o on
-pub read_turn : (m : Memory) (x₀ x : List ℕ) (a k n b o v w : ℕ) (held ys : List ℕ) → Shaped m → x ≡ bytes_from m a k ++ drop k x₀ → k + n ≤ length x₀ → 16 * b + o ≡ a + k
+read_turn : (m : Memory) (x₀ x : List ℕ) (a k n b o v w : ℕ) (held ys : List ℕ) → Shaped m → x ≡ bytes_from m a k ++ drop k x₀ → k + n ≤ length x₀ → 16 * b + o ≡ a + k
     → o + n ≤ 16 → b < 32 → held ≡ block_at m b → v ≡ n → w ≡ n → ys ≡ take v (drop o held) → put_mid k w x ys ≡ bytes_from m a (k + n) ++ drop (k + n) x₀
 read_turn m x₀ x a k n b o v w held ys s inv kn at on b< eh ev ew ey =
     let f = bytes_from m a k in
@@ -100,6 +100,33 @@ read_turn m x₀ x a k n b o v w held ys s inv kn at on b< eh ev ew ey =
     ∙ ap (λ (z : List ℕ). f ++ (z ++ drop (k + n) x₀)) e
     ∙ sym (append_assoc f (bytes_from m (a + k) n) (drop (k + n) x₀))
     ∙ ap (λ (z : List ℕ). z ++ drop (k + n) x₀) (sym (taken_more m a k n))
+
+-- the write of one piece: the bytes d to e of the range, into block b from its offset o on
+pub piece_written : (m₀ m : Memory) (a : ℕ) (xs : List ℕ) (d e b o p q r : ℕ) (held ys : List ℕ) → Shaped m → m ≡ with_bytes m₀ a (take d xs) → d < e → e ≤ length xs → 16 * b + o ≡ a + d
+    → p ≡ o + (e - d) → p ≤ 16 → b < 32 → held ≡ block_at m b → q ≡ d → r ≡ e → ys ≡ take (r - q) (drop q xs) → set m b (put_mid o (p - o) held ys) ≡ with_bytes m₀ a (take e xs)
+piece_written m₀ m a xs d e b o p q r held ys s inv de el at po on b< eh eq er ey =
+    let n = e - d in
+    let kn : d + (e - d) ≤ length xs = omega arith in
+    let on' : o + (e - d) ≤ 16 = omega arith in
+    let ev : r - q ≡ e - d = omega arith in
+    let ew : p - o ≡ e - d = omega arith in
+    let all : d + (e - d) ≡ e = omega arith in
+    write_turn m₀ m a xs d n b o (r - q) (p - o) held ys s inv kn at on' b< eh ev ew (ey ∙ ap (λ (z : ℕ). take (r - q) (drop z xs)) eq)
+    ∙ ap (λ (z : ℕ). with_bytes m₀ a (take z xs)) all
+
+-- the read of one piece: the bytes d to e of the range, from block b from its offset o on
+pub piece_read : (m : Memory) (x₀ x : List ℕ) (a d e b o p q r : ℕ) (held ys : List ℕ) → Shaped m → x ≡ bytes_from m a d ++ drop d x₀ → d < e → e ≤ length x₀ → 16 * b + o ≡ a + d
+    → p ≡ o + (e - d) → p ≤ 16 → b < 32 → held ≡ block_at m b → q ≡ d → r ≡ e → ys ≡ take (p - o) (drop o held) → put_mid q (r - q) x ys ≡ bytes_from m a e ++ drop e x₀
+piece_read m x₀ x a d e b o p q r held ys s inv de el at po on b< eh eq er ey =
+    let n = e - d in
+    let kn : d + (e - d) ≤ length x₀ = omega arith in
+    let on' : o + (e - d) ≤ 16 = omega arith in
+    let ev : p - o ≡ e - d = omega arith in
+    let ew : r - q ≡ e - d = omega arith in
+    let all : d + (e - d) ≡ e = omega arith in
+    ap (λ (z : ℕ). put_mid z (r - q) x ys) eq
+    ∙ read_turn m x₀ x a d n b o (p - o) (r - q) held ys s inv kn at on' b< eh ev ew ey
+    ∙ ap (λ (z : ℕ). bytes_from m a z ++ drop z x₀) all
 
 -- a whole list overwritten
 pub all_set : (x d : List ℕ) (n : ℕ) → length x ≡ n → length d ≡ n → sets x 0 d ≡ d

@@ -1,7 +1,7 @@
 -- What reading and writing a range of bytes gives, or that the range runs past the end. Assumes nothing.
 use Rattle.std.specs.Prelude.{◌≡◌, ℕ, ◌+◌, ◌<◌, ◌≤◌, List, length, Ok, Err, Result}
 use Rattle.memory.specs.Memory.{Memory, memory_size, bytes_from, with_bytes}
-use Rattle.memory.specs.declared.ranges.PastEnd.{PastEnd}
+use Rattle.memory.specs.declared.past_end.PastEnd.{PastEnd}
 
 -- a read from the address a on into a buffer
 abbrev pub RangeRead : Memory → ℕ → List ℕ → Result (Unit {0}) PastEnd → List ℕ → Type 0

@@ -4,11 +4,14 @@
 mod address;
 mod blocks;
 mod number;
+mod past_end;
+mod pieces;
 mod ranges;
 mod refusal;
 
 pub use address::Address;
 pub use blocks::Store;
 pub use number::BlockNumber;
-pub use ranges::{PastEnd, read_bytes, write_bytes};
+pub use past_end::PastEnd;
+pub use ranges::{read_bytes, write_bytes};
 pub use refusal::Refusal;

@@ -1,27 +1,17 @@
-ghost use Rattle.std.specs.Prelude.{◌≡◌, ◌<◌, ◌≤◌, MatchOption};
+ghost use Rattle.std.specs.Prelude.{◌≡◌, ◌<◌, ◌≤◌, MatchResult};
 ghost use Rattle.memory.specs.Memory.{block_count};
+ghost use Rattle.memory.specs.declared.refusal.Refusal.TheVariants.{NoSuchBlock};
+
+use crate::refusal::Refusal;
 
 // The number of a block, 0 to 31 once it is made.
-#[derive(Clone, Copy)]
+#[derive(Clone, Copy, Debug, PartialEq, Eq, PartialOrd, Ord)]
 pub struct BlockNumber {
     index: u8,
     ghost within: { index < block_count },
 }
 
 impl BlockNumber {
-    // The block of that number, if the memory has it.
-    pub fn new(number: u16) -> Option<BlockNumber>
-        ensures { MatchOption result (block_count ≤ number) (λ b. (number < block_count) × (b.index ≡ number)) }
-    {
-        if number < 32 {
-            Some(BlockNumber {
-                index: number as u8,
-            })
-        } else {
-            None
-        }
-    }
-
     // The block of a number that is known to be one.
     pub fn known(index: u8) -> BlockNumber
         requires { index < block_count }
@@ -34,5 +24,22 @@ impl BlockNumber {
         ensures { result ≡ self.index }
     {
         self.index
+    }
+}
+
+// The block of that number, if the memory has it.
+impl TryFrom<u16> for BlockNumber {
+    type Error = Refusal;
+
+    ghost try_from_gives = { λ number r. MatchResult r (λ b. (number < block_count) × (b.index ≡ number)) (λ e. (block_count ≤ number) × (e ≡ NoSuchBlock)) };
+
+    fn try_from(number: u16) -> Result<Self, Refusal> {
+        if number < 32 {
+            Ok(BlockNumber {
+                index: number as u8,
+            })
+        } else {
+            Err(Refusal::NoSuchBlock)
+        }
     }
 }

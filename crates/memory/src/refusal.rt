@@ -2,16 +2,16 @@ ghost use Rattle.std.specs.Prelude.{◌≡◌};
 ghost use Rattle.memory.specs.Refusals.{refusal_number};
 
 // Why a call is refused. A refused call changes nothing, and the first case that fits is answered.
-#[derive(Clone, Copy)]
+#[derive(Clone, Copy, Debug, PartialEq, Eq)]
 pub enum Refusal {
     // the bench names a block over 31
-    NoSuchBlock,
+    NoSuchBlock = 1,
     // the bench brings a buffer that is not 16 bytes long
-    NotBlockSized,
+    NotBlockSized = 2,
     // an image is not 512 bytes long
-    NotImageSized,
+    NotImageSized = 3,
     // a frame comes with a reply buffer of less than 256 bytes
-    ReplyBufferShort,
+    ReplyBufferShort = 4,
 }
 
 impl Refusal {
@@ -19,11 +19,6 @@ impl Refusal {
     pub fn number(self) -> u8
         ensures { result ≡ refusal_number self }
     {
-        match self {
-            Refusal::NoSuchBlock => 1,
-            Refusal::NotBlockSized => 2,
-            Refusal::NotImageSized => 3,
-            Refusal::ReplyBufferShort => 4,
-        }
+        self as u8
     }
 }

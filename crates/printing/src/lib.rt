@@ -3,82 +3,84 @@
 
 use memory::Refusal;
 use runner::Answer;
-use std::io;
-use std::io::Write;
-use system::Writable;
+use std::fmt;
 
-fn show_hex<W: Write>(out: &mut W, bytes: &[u8]) -> io::Result<()> {
-    for byte in bytes {
-        write!(out, "{byte:02X}")?;
-    }
-    Ok(())
-}
+// Bytes, two hex digits each.
+#[derive(Clone, Copy)]
+struct Hex<'a>(&'a [u8]);
 
-pub fn show_refusal<W: Write>(out: &mut W, refusal: Refusal) -> io::Result<()> {
-    writeln!(out, "refused {}", refusal.number())
-}
-
-fn show_done<W: Write>(out: &mut W, res: Result<(), Refusal>) -> io::Result<()> {
-    match res {
-        Ok(()) => writeln!(out, "ok"),
-        Err(refusal) => show_refusal(out, refusal),
-    }
-}
-
-fn show_read<W: Write>(out: &mut W, res: Result<(), Refusal>, buffer: &[u8]) -> io::Result<()> {
-    match res {
-        Ok(()) => {
-            write!(out, "block ")?;
-            show_hex(out, buffer)?;
-            writeln!(out)
+impl<'a> fmt::Display for Hex<'a> {
+    fn fmt<W: fmt::Write>(&self, f: &mut fmt::Formatter<W>) -> fmt::Result {
+        for byte in self.0 {
+            write!(f, "{byte:02X}")?;
         }
-        Err(refusal) => show_refusal(out, refusal),
+        Ok(())
     }
 }
 
-fn show_writable<W: Write>(out: &mut W, writable: Writable) -> io::Result<()> {
-    match writable.lowest {
-        Some(block) => writeln!(out, "{} from {}", writable.count, block.index()),
-        None => writeln!(out, "{} none", writable.count),
+// Why a call is refused, by its number.
+#[derive(Clone, Copy)]
+pub struct Refused(pub Refusal);
+
+impl fmt::Display for Refused {
+    fn fmt<W: fmt::Write>(&self, f: &mut fmt::Formatter<W>) -> fmt::Result {
+        write!(f, "refused {}", self.0.number())
     }
 }
 
-fn show_framed<W: Write>(
-    out: &mut W,
-    res: Result<Option<usize>, Refusal>,
-    buffer: &[u8],
-) -> io::Result<()> {
-    match res {
-        Ok(Some(length)) => {
-            write!(out, "reply ")?;
-            show_hex(out, &buffer[0..length.min(buffer.len())])?;
-            writeln!(out)
+// The answer of one call, in one line.
+#[derive(Clone, Copy)]
+pub struct Line<'a>(pub &'a Answer);
+
+impl<'a> fmt::Display for Line<'a> {
+    fn fmt<W: fmt::Write>(&self, f: &mut fmt::Formatter<W>) -> fmt::Result {
+        match self.0 {
+            Answer::Field | Answer::Written { result: Ok(()) } => f.write_str("ok"),
+            Answer::Read {
+                result: Ok(()),
+                buffer,
+            } => write!(f, "block {}", Hex(buffer.as_slice())),
+            Answer::Figure { writable } => match writable.lowest {
+                Some(block) => write!(f, "{} from {}", writable.count, block.index()),
+                None => write!(f, "{} none", writable.count),
+            },
+            Answer::Framed {
+                result: Ok(Some(length)),
+                buffer,
+            } => write!(
+                f,
+                "reply {}",
+                Hex(&buffer.as_slice()[..buffer.len().min(*length)])
+            ),
+            Answer::Framed {
+                result: Ok(None),
+                ..
+            } => f.write_str("silence"),
+            Answer::Performed { count } => write!(f, "performed {count}"),
+            Answer::Read {
+                result: Err(refusal),
+                ..
+            }
+            | Answer::Written {
+                result: Err(refusal),
+            }
+            | Answer::Framed {
+                result: Err(refusal),
+                ..
+            } => write!(f, "{}", Refused(*refusal)),
         }
-        Ok(None) => writeln!(out, "silence"),
-        Err(refusal) => show_refusal(out, refusal),
     }
 }
 
-// The answer of one call, a line.
-pub fn show<W: Write>(out: &mut W, answer: &Answer) -> io::Result<()> {
-    match answer {
-        Answer::Field => writeln!(out, "ok"),
-        Answer::Read { result, buffer } => show_read(out, *result, buffer.as_slice()),
-        Answer::Written { result } => show_done(out, *result),
-        Answer::Figure { writable } => show_writable(out, *writable),
-        Answer::Framed { result, buffer } => show_framed(out, *result, buffer.as_slice()),
-        Answer::Performed { count } => writeln!(out, "performed {count}"),
+// One block of a dump, in one line.
+#[derive(Clone, Copy)]
+pub struct Dumped<'a> {
+    pub block: u16,
+    pub bytes: &'a [u8],
+}
+
+impl<'a> fmt::Display for Dumped<'a> {
+    fn fmt<W: fmt::Write>(&self, f: &mut fmt::Formatter<W>) -> fmt::Result {
+        write!(f, "{:02}: {}", self.block, Hex(self.bytes))
     }
-}
-
-// One block of a dump, a line.
-pub fn show_dumped<W: Write>(out: &mut W, block: u16, bytes: &[u8]) -> io::Result<()> {
-    write!(out, "{block:02}: ")?;
-    show_hex(out, bytes)?;
-    writeln!(out)
-}
-
-// The line could not be carried out, and changed nothing.
-pub fn show_want_of_memory<W: Write>(out: &mut W, number: u64) -> io::Result<()> {
-    writeln!(out, "error line {number}: out of memory")
 }

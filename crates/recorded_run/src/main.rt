@@ -1,11 +1,11 @@
 //! Performs one list of calls on a tag over each store, and prints the answers: the law of memory holds of each run, with no premise.
 #![tactic(auto)]
 
-use memory::Store;
-use printing::show;
+use anyhow::anyhow;
+use printing::Line;
 use runner::{Answer, Call, run};
 use std::io::{BufWriter, Write};
-use stores::{FlatStore, LogStore};
+use stores::{FlatStore, Load, LogStore};
 use system::example_image;
 
 // Reads and writes of any block, refused ones among them, the figure as the field goes on and off, and frames of both protocols.
@@ -148,29 +148,19 @@ const CALLS: &[Call<'static>] = &[
 ];
 
 fn main(rt: HostRuntime) -> anyhow::Result<()> {
-    both(&rt)
+    over::<FlatStore>(&rt, "over the flat store")?;
+    over::<LogStore>(&rt, "over the log store")
 }
 
-fn both(rt: &HostRuntime) -> anyhow::Result<()> {
-    let image = example_image();
-    rt.println("over the flat store")?;
-    match FlatStore::load(&image) {
-        Ok(store) => one(rt, store)?,
-        Err(_) => {}
-    }
-    rt.println("over the log store")?;
-    match LogStore::load(&image) {
-        Ok(store) => one(rt, store)?,
-        Err(_) => {}
-    }
-    Ok(())
-}
-
-fn one<S: Store + Drop>(rt: &HostRuntime, store: S) -> anyhow::Result<()> {
+fn over<S: Load + Drop>(rt: &HostRuntime, heading: &str) -> anyhow::Result<()> {
+    rt.println(heading)?;
+    let Ok(store) = S::load(&example_image()) else {
+        return Err(anyhow!("the example image is refused"));
+    };
     let (_tag, answers) = run(rt.alloc(), store, CALLS)?;
     let mut out = BufWriter::new(rt.alloc(), rt.stdout())?;
     for answer in answers.iter() {
-        show(&mut out, answer)?;
+        writeln!(out, "{}", Line(answer))?;
     }
     out.flush()?;
     Ok(())

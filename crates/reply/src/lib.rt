@@ -1,7 +1,6 @@
-//! The writer in which each reply of a tag is built: pushed piece by piece, sealed as a frame, and copied once to the caller's buffer.
+//! A reply: what a protocol answers is sealed as a frame, and copied once to the caller's buffer.
 #![tactic(auto)]
 
-mod calls;
-mod writer;
+mod sealing;
 
-pub use writer::Reply;
+pub use sealing::{Body, Payload, Reply, seal_jis, seal_type_b, send};

@@ -2,7 +2,7 @@ use memory::Refusal;
 use system::Writable;
 
 // A call on a tag, with its arguments.
-#[derive(Clone, Copy)]
+#[derive(Clone, Copy, Debug, PartialEq, Eq)]
 pub enum Call<'a> {
     FieldOn,
     FieldOff,
@@ -16,8 +16,8 @@ pub enum Call<'a> {
     BenchPerformed,
 }
 
-// What a call answers.
-#[derive(Drop)]
+// What a call answers. A buffer stands whole beside the length of the reply in it, since what a call leaves past the reply is promised too.
+#[derive(Debug, PartialEq, Drop)]
 pub enum Answer {
     // a field change answers nothing
     Field,

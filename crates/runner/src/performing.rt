@@ -1,6 +1,7 @@
-ghost use Rattle.std.specs.Prelude.{◌≡◌, IfOk, MatchResult};
-ghost use Rattle.tag.specs.View.{Made};
-ghost use Rattle.runner.specs.declared.call.Call.TheVariants.{FieldOn, FieldOff, BenchRead, BenchWrite, BenchWritable, Jis, TypeB, BenchPerformed};
+ghost use Rattle.std.specs.Prelude.{◌≡◌, IfOk, MatchResult, replicate};
+ghost use Rattle.tag.specs.History.{jis, type_b};
+ghost use Rattle.tag.specs.View.{Called, Made};
+ghost use Rattle.runner.specs.Lending.{Lent};
 ghost use Rattle.runner.specs.Told.{Performed, PerformedAll};
 
 use crate::call::{Answer, Call};
@@ -17,92 +18,70 @@ pub fn perform<S: Store>(
     ensures { MatchResult result (λ a. Performed S.blocks tag.old call.now a tag.new) (λ _. tag.new ≡ tag.old) }
 {
     match call {
-        Call::FieldOn => Ok(field_on(tag)),
-        Call::FieldOff => Ok(field_off(tag)),
-        Call::BenchRead { block, into } => bench_read(heap, tag, *block, *into),
-        Call::BenchWrite { block, bytes } => Ok(bench_write(tag, *block, bytes)),
-        Call::BenchWritable => Ok(bench_writable(tag)),
-        Call::Jis { frame, into } => jis_frame(heap, tag, frame, *into),
-        Call::TypeB { frame, into } => type_b_frame(heap, tag, frame, *into),
-        Call::BenchPerformed => Ok(bench_performed(tag)),
+        Call::FieldOn => {
+            tag.field_on();
+            Ok(Answer::Field)
+        }
+        Call::FieldOff => {
+            tag.field_off();
+            Ok(Answer::Field)
+        }
+        Call::BenchRead { block, into } => {
+            let (result, buffer) = with_buffer(
+                heap,
+                tag,
+                *into,
+                |tag, out| tag.bench_read(*block, out),
+            )?;
+            Ok(Answer::Read { result, buffer })
+        }
+        Call::BenchWrite { block, bytes } => Ok(Answer::Written {
+            result: tag.bench_write(*block, bytes),
+        }),
+        Call::BenchWritable => Ok(Answer::Figure {
+            writable: tag.bench_writable(),
+        }),
+        Call::Jis { frame, into } => {
+            let (result, buffer) = with_buffer(
+                heap,
+                tag,
+                *into,
+                |tag, reply|
+                    ensures { Called S.blocks tag.old (jis frame.entry.now.now reply.old result reply.new) tag.new }
+                { tag.jis_frame(frame, reply) },
+            )?;
+            Ok(Answer::Framed { result, buffer })
+        }
+        Call::TypeB { frame, into } => {
+            let (result, buffer) = with_buffer(
+                heap,
+                tag,
+                *into,
+                |tag, reply|
+                    ensures { Called S.blocks tag.old (type_b frame.entry.now.now reply.old result reply.new) tag.new }
+                { tag.type_b_frame(frame, reply) },
+            )?;
+            Ok(Answer::Framed { result, buffer })
+        }
+        Call::BenchPerformed => Ok(Answer::Performed {
+            count: tag.bench_performed(),
+        }),
     }
 }
 
-fn field_on<S: Store>(tag: &mut Tag<S>) -> Answer
-    ensures { Performed S.blocks tag.old FieldOn result tag.new }
-{
-    tag.field_on();
-    Answer::Field
-}
-
-fn field_off<S: Store>(tag: &mut Tag<S>) -> Answer
-    ensures { Performed S.blocks tag.old FieldOff result tag.new }
-{
-    tag.field_off();
-    Answer::Field
-}
-
-fn bench_read<S: Store>(
-    heap: Global,
-    tag: &Tag<S>,
-    block: u16,
-    into: usize,
-) -> Result<Answer, AllocError>
-    ensures { IfOk result (λ a. Performed S.blocks tag.now (BenchRead block into) a tag.now) }
-{
-    let mut buffer = vec![in heap; 0u8; into]?;
-    let result = tag.bench_read(block, buffer.as_mut_slice());
-    Ok(Answer::Read { result, buffer })
-}
-
-fn bench_write<S: Store>(tag: &mut Tag<S>, block: u16, bytes: &[u8]) -> Answer
-    ensures { Performed S.blocks tag.old (BenchWrite block bytes.entry) result tag.new }
-{
-    Answer::Written {
-        result: tag.bench_write(block, bytes),
-    }
-}
-
-fn bench_writable<S: Store>(tag: &Tag<S>) -> Answer
-    ensures { Performed S.blocks tag.now BenchWritable result tag.now }
-{
-    Answer::Figure {
-        writable: tag.bench_writable(),
-    }
-}
-
-fn jis_frame<S: Store>(
+// Makes a call on the tag with a buffer of `into` zeros, and hands the buffer back as the call left it.
+fn with_buffer<S: Store, R: Drop, F: FnOnce(&mut Tag<S>, &mut [u8]) -> R + Drop>(
     heap: Global,
     tag: &mut Tag<S>,
-    frame: &[u8],
     into: usize,
-) -> Result<Answer, AllocError>
-    ensures { MatchResult result (λ a. Performed S.blocks tag.old (Jis frame.entry into) a tag.new) (λ _. tag.new ≡ tag.old) }
+    call: F,
+) -> Result<(R, Vec<u8>), AllocError>
+    requires { F.IsAlwaysCallable call }
+    ensures { MatchResult result (λ p. Lent F.FnOnce call tag.old (replicate into 0) p.0 tag.new p.1.items) (λ _. tag.new ≡ tag.old) }
 {
     let mut buffer = vec![in heap; 0u8; into]?;
-    let result = tag.jis_frame(frame, buffer.as_mut_slice());
-    Ok(Answer::Framed { result, buffer })
-}
-
-fn type_b_frame<S: Store>(
-    heap: Global,
-    tag: &mut Tag<S>,
-    frame: &[u8],
-    into: usize,
-) -> Result<Answer, AllocError>
-    ensures { MatchResult result (λ a. Performed S.blocks tag.old (TypeB frame.entry into) a tag.new) (λ _. tag.new ≡ tag.old) }
-{
-    let mut buffer = vec![in heap; 0u8; into]?;
-    let result = tag.type_b_frame(frame, buffer.as_mut_slice());
-    Ok(Answer::Framed { result, buffer })
-}
-
-fn bench_performed<S: Store>(tag: &Tag<S>) -> Answer
-    ensures { Performed S.blocks tag.now BenchPerformed result tag.now }
-{
-    Answer::Performed {
-        count: tag.bench_performed(),
-    }
+    let result = call(tag, buffer.as_mut_slice());
+    Ok((result, buffer))
 }
 
 // Makes a tag over the store and performs the calls one after the other.
@@ -118,7 +97,7 @@ pub fn run<S: Store + Drop>(
     Ok((tag, answers))
 }
 
-// Performs the calls on a tag just made.
+// Performs the calls on a tag just made. A loop: `try_collect` takes its iterator by value, and no clause says how it leaves what a closure borrowed.
 fn perform_all<S: Store>(
     heap: Global,
     tag: &mut Tag<S>,

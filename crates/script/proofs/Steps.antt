@@ -1,6 +1,7 @@
 -- The steps of the loops that read numbers and bytes. Assumes nothing.
-use Rattle.std.proofs.Common.{◌≡◌, ℕ, ◌+◌, ◌-◌, ◌*◌, ◌<◌, ◌≤◌, min, Bool, true, false, cond, ◌&&◌, List, [], ◌∷◌, ◌++◌, length, get_or, drop, Ok, Err, Result, sym, refl, ap, ◌∙◌, append_assoc, arith}
+use Rattle.std.proofs.Common.{◌≡◌, ℕ, ◌+◌, ◌-◌, ◌*◌, ◌<◌, ◌≤◌, min, Bool, true, false, cond, ◌&&◌, List, [], ◌∷◌, ◌++◌, length, get_or, take, drop, drop-drop, zero, suc, Ok, Err, Result, sym, refl, ap, ◌∙◌, append_assoc, arith}
 use Rattle.std.proofs.lemmas.List.{at_drop_more}
+use Rattle.std.specs.Simd.{first_chunks}
 use Rattle.std.specs.Char.{is_ascii_digit}
 use Rattle.std.specs.Str.{all_ascii_digits}
 use Rattle.script.specs.declared.fault.Fault.{Fault}
@@ -46,6 +47,29 @@ pub hex_more : (front w : List ℕ) (x : ℕ) → 2 ≤ length w → Ok x ≡ he
 hex_more front w x h e =
     onto_push front x (hex_word (drop 2 w))
     ∙ ap (onto front) (ap (λ r. and_then r (λ x. and_then (hex_word (drop 2 w)) (λ xs. Ok (x ∷ xs)))) e ∙ sym (hex_pair w h))
+
+-- a pair that stops it
+pub hex_stops : (front w : List ℕ) (e : Fault) → 2 ≤ length w → Err e ≡ hex_byte (get_or w 0 0) (get_or w 1 0) → Err e ≡ onto front (hex_word w)
+hex_stops front w e h s = sym (ap (onto front) (hex_pair w h ∙ ap (λ r. and_then r (λ x. and_then (hex_word (drop 2 w)) (λ xs. Ok (x ∷ xs)))) (sym s)))
+
+-- the pairs of a word
+pair_at : (k i : ℕ) (w : Word) → i < k → get_or (first_chunks 2 k w) i [] ≡ take 2 (drop (2 * i) w)
+pair_at zero i w h = absurd (omega arith)
+pair_at (suc k) zero w h = refl
+pair_at (suc k) (suc i) w h =
+    let l : i < k = omega arith in
+    let e : 2 + 2 * i ≡ 2 * suc i = omega arith in
+    pair_at k i (drop 2 w) l ∙ ap (take 2) (drop-drop (2 * i) 2 w ∙ ap (λ j. drop j w) e)
+
+first_two : (w : Word) → hex_byte (get_or (take 2 w) 0 0) (get_or (take 2 w) 1 0) ≡ hex_byte (get_or w 0 0) (get_or w 1 0)
+first_two [] = refl
+first_two (a ∷ []) = refl
+first_two (a ∷ b ∷ w) = refl
+
+pub pair_read : (ps : List Word) (n i : ℕ) (w : Word) (r : Result ℕ Fault) → ps ≡ first_chunks 2 n w → i < n → r ≡ hex_byte (get_or (get_or ps i []) 0 0) (get_or (get_or ps i []) 1 0) →
+    r ≡ hex_byte (get_or (drop (2 * i) w) 0 0) (get_or (drop (2 * i) w) 1 0)
+pair_read ps n i w r e h s =
+    s ∙ ap (λ p. hex_byte (get_or p 0 0) (get_or p 1 0)) (ap (λ qs. get_or qs i []) e ∙ pair_at n i w h) ∙ first_two (drop (2 * i) w)
 
 onto_more : (front more : List ℕ) (r s : Result (List ℕ) Fault) → Ok more ≡ onto front r → onto more s ≡ onto front (and_then r (λ xs. onto xs s))
 onto_more front more (Ok xs) (Ok ys) e = let same : more ≡ front ++ xs = cc in ap (λ zs. Ok (zs ++ ys)) same ∙ ap (λ zs. Ok zs) (append_assoc front xs ys)

@@ -2,4 +2,3 @@ pub mod Words
 pub mod Line
 pub mod Written
 pub mod Messages
-pub mod Runs

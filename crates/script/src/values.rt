@@ -43,12 +43,9 @@ fn hex_byte(high: u8, low: u8) -> Result<u8, Fault>
 pub(crate) fn push_hex(bytes: &mut Vec<u8>, word: &[u8]) -> Result<(), Fault>
     ensures { Gives (λ _. bytes.new.items) result (onto bytes.old.items (hex_word word.now)) }
 {
-    let mut rest = word;
-    while let [high, low, after @ ..] = rest {
-        if bytes.push(hex_byte(*high, *low)?).is_err() {
-            return Err(Fault::OutOfMemory);
-        }
-        rest = after;
+    let (pairs, rest) = word.as_chunks::<2>();
+    for [high, low] in pairs {
+        bytes.push(hex_byte(*high, *low)?)?;
     }
     match rest {
         [] => Ok(()),
@@ -60,11 +57,11 @@ pub(crate) fn push_hex(bytes: &mut Vec<u8>, word: &[u8]) -> Result<(), Fault>
 }
 
 // The bytes that the words to the end of the line write.
-pub(crate) fn read_hex(heap: Global, mut words: Words<'_>) -> Result<Vec<u8>, Fault>
+pub(crate) fn read_hex(heap: Global, words: Words<'_>) -> Result<Vec<u8>, Fault>
     ensures { Gives (λ v. v.items) result (hex_bytes (words_of words.entry.rest.now)) }
 {
     let mut bytes = Vec::new(heap);
-    while let Some(word) = words.next() {
+    for word in words {
         push_hex(&mut bytes, word)?;
     }
     Ok(bytes)

@@ -1,60 +1,66 @@
-ghost use Rattle.std.specs.Prelude.{◌≡◌, [], ◌∷◌, MatchOption};
-ghost use Rattle.std.specs.List.{prefix_len};
+ghost use Rattle.std.specs.Prelude.{◌≡◌, ◌==◌, not, position, Ok};
+ghost use Rattle.std.specs.List.{position_or_len};
 ghost use Rattle.std.specs.Str.{bytes_eq};
-ghost use Rattle.script.specs.Words.{words_of, without_return, ended, comment};
-ghost use Rattle.script.specs.Runs.{in_run};
+ghost use Rattle.script.specs.Words.{words_of, without_return, and_then, ended};
 
 use crate::fault::Fault;
 
-// The line without the carriage return that may end it.
-pub(crate) fn without_return(line: &[u8]) -> &[u8]
-    ensures { result.now ≡ without_return line.now }
+// The place of the first byte that is no space.
+fn word_start(line: &[u8]) -> Option<usize>
+    ensures { result ≡ position (λ c. not (c == 32)) line.now }
 {
-    match line {
-        [front @ .., b'\r'] => front,
-        _ => line,
-    }
+    line.iter().position(|c| *c != b' ')
 }
 
-// How many bytes at the front are spaces, or how many are not.
-fn run_len(line: &[u8], spaces: bool) -> usize
-    ensures { result ≡ prefix_len (in_run spaces) line.now }
+// How many bytes stand before the first space, or in all.
+fn word_len(line: &[u8]) -> usize
+    ensures { result ≡ position_or_len (λ c. c == 32) line.now }
 {
-    for (i, c) in line.iter().enumerate() {
-        if (*c == b' ') != spaces {
-            return i;
-        }
-    }
-    line.len()
+    line.iter().take_while(|c| **c != b' ').count()
 }
 
 // The words of a line that are still to be read.
-#[derive(Clone, Copy)]
+#[derive(Drop)]
 pub(crate) struct Words<'a> {
     pub(crate) rest: &'a [u8],
 }
 
 impl<'a> Words<'a> {
-    pub(crate) fn next(&mut self) -> Option<&'a [u8]>
-        ensures { MatchOption result (words_of self.old.rest.now ≡ []) (λ w. words_of self.old.rest.now ≡ w.now ∷ words_of self.new.rest.now) }
+    // A carriage return at the end of the line is passed over.
+    pub(crate) fn new(line: &'a [u8]) -> Words<'a>
+        ensures { result.rest.now ≡ without_return line.now }
     {
-        let line = self.rest;
-        let (_, line) = line.split_at(run_len(line, true));
-        if line.is_empty() {
-            return None;
+        match line {
+            [rest @ .., b'\r'] => Words { rest },
+            _ => Words { rest: line },
         }
-        let (word, rest) = line.split_at(run_len(line, false));
+    }
+}
+
+impl<'a> Iterator for Words<'a> {
+    ghost use Rattle.std.specs.Iterator.{YieldsFirstBy, item_count};
+    ghost use Rattle.script.specs.Words.{words_of};
+
+    type Item = &'a [u8];
+
+    ghost next_gives = { YieldsFirstBy (λ w. w.now) (λ s. words_of s.rest.now) };
+
+    ghost remaining = { item_count (λ s. words_of s.rest.now) };
+
+    fn next(&mut self) -> Option<&'a [u8]> {
+        let line = &self.rest[word_start(self.rest)?..];
+        let (word, rest) = line.split_at(word_len(line));
         self.rest = rest;
         Some(word)
     }
 }
 
-// Refuses words after a command that is complete.
-pub(crate) fn check_end(mut words: Words<'_>) -> Result<(), Fault>
-    ensures { result ≡ ended (words_of words.entry.rest.now) }
+// The value that the words before gave, where no word follows.
+pub(crate) fn complete<T: Drop>(mut words: Words<'_>, value: T) -> Result<T, Fault>
+    ensures { result ≡ and_then (ended (words_of words.entry.rest.now)) (λ _. Ok value) }
 {
     match words.next() {
-        None => Ok(()),
+        None => Ok(value),
         Some(_) => Err(Fault::TooMany),
     }
 }
@@ -64,10 +70,4 @@ pub(crate) fn is(word: &[u8], name: &[u8]) -> bool
     ensures { result ≡ bytes_eq word.now name.now }
 {
     word == name
-}
-
-pub(crate) fn is_comment(word: &[u8]) -> bool
-    ensures { result ≡ comment word.now }
-{
-    matches!(word, [b'#', ..])
 }

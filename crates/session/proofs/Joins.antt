@@ -1,39 +1,10 @@
 -- Pieces of a command joined. Assumes nothing.
-use Rattle.std.proofs.Common.{◌≡◌, ℕ, ◌+◌, ◌<◌, ◌≤◌, Bool, true, false, cond, leb, List, [], ◌∷◌, ◌++◌, length, take, sym, refl, ap, ◌∙◌, append_assoc, append-nil, arith, length-append, length-take}
-use borrow.Rule.Slice.PartMut.{put_mid}
+use Rattle.std.proofs.Common.{◌≡◌, ℕ, ◌<◌, Bool, true, false, cond, leb, List, [], ◌∷◌, ◌++◌, length, sym, refl, ap, ◌∙◌, append_assoc, append-nil, arith, length-append}
 use Rattle.std.specs.List.{flat_map}
-use Rattle.std.proofs.lemmas.Slice.{take-put_mid}
-use Rattle.std.proofs.lemmas.Bool.{le-leb, lt-leb, leb-false, both_ways}
+use Rattle.std.proofs.lemmas.Bool.{le-leb, lt-leb, leb-false}
 use Rattle.command.specs.Orders.{asked_by, answered}
 use Rattle.command.specs.declared.status.Status.TheVariants.{WrongLength}
 use Rattle.session.specs.Chains.{Joined, short, long, clip, more, joined_last, commanded, picked_order, chain_of}
-
-pub added : (o : Bool) (h k : ℕ) (b p q : List ℕ) → o ≡ false → length b ≡ 256 → h + length p ≤ 256 → q ≡ p →
-    cond o long (short (take (h + length p) (put_mid h k b q))) ≡ more (cond o long (short (take h b))) p
-added true h k b p q e hb fits same = absurd (both_ways true e refl)
-added false h k b p q e hb fits same =
-    let within : h ≤ length b = omega arith in
-    let hl : length (take h b) ≡ h = simp length-take (omega arith) in
-    let e3 : leb (length (take h b ++ p)) 256 ≡ true = le-leb (length (take h b ++ p)) 256 (simp length-append (omega arith)) in
-    let e4 : take (h + length p) (put_mid h k b q) ≡ take h b ++ p = take-put_mid h k b q (h + length p) (ap (λ z. h + length z) (sym same)) within ∙ ap (λ z. take h b ++ z) same in
-    ap short e4 ∙ sym (ap (λ t. cond t (short (take h b ++ p)) long) e3)
-
-pub too_many : (o : Bool) (h : ℕ) (b p : List ℕ) → o ≡ false → length b ≡ 256 → h ≤ 256 → 256 < h + length p → long ≡ more (cond o long (short (take h b))) p
-too_many true h b p e hb within over = refl
-too_many false h b p e hb within over =
-    let hl : length (take h b) ≡ h = simp length-take (omega arith) in
-    let e3 : leb (length (take h b ++ p)) 256 ≡ false = lt-leb (length (take h b ++ p)) 256 (simp length-append (omega arith)) in
-    sym (ap (λ t. cond t (short (take h b ++ p)) long) e3)
-
-pub joins : (o : Bool) (l p : List ℕ) → 0 < length l → more (cond o long (short l)) p ≡ joined_last (cond o long (short l)) p
-joins true l p h = refl
-joins false [] p h = absurd (omega arith)
-joins false (x ∷ l) p h = refl
-
-pub none_joins : (o : Bool) (l p : List ℕ) → length l ≡ 0 → cond o long (short l) ≡ joined_last (cond o long (short l)) p
-none_joins true l p h = refl
-none_joins false [] p h = refl
-none_joins false (x ∷ l) p h = absurd (omega arith)
 
 -- the chain never holds more than 256 bytes, and a longer command is answered as one
 pub more_clip : (l p : List ℕ) → more (clip l) p ≡ clip (l ++ p)

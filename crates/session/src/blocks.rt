@@ -1,7 +1,6 @@
-ghost use Rattle.std.specs.Prelude.{◌≡◌, ◌≤◌, [], length, nat_lt};
+ghost use Rattle.std.specs.Prelude.{◌≡◌, ◌≤◌, [], ◌∷◌, length, nat_lt};
 ghost use Rattle.std.specs.Option.{option_map};
-ghost use Rattle.reply.specs.Held.{held};
-ghost use Rattle.command.specs.Performed.{whole};
+ghost use Rattle.buffer.specs.Held.{held};
 ghost use Rattle.session.specs.Chains.{picked};
 ghost use Rattle.session.specs.Model.{ack_pcb, ack_reply, after_ack, after_answer, after_chained, inf_size, i_pcb, joined_to, last_body, nak_reply, next_sent, same_number, started, toggled};
 ghost use Rattle.session.specs.View.{last_of, model, rest_of};
@@ -10,7 +9,7 @@ use crate::chain::Chain;
 use crate::sending::Sending;
 use crate::state::{Last, Session};
 use command::Answer;
-use reply::Reply;
+use reply::Body;
 use type_b::FrameSize;
 
 // The PCB of R(ACK).
@@ -41,20 +40,18 @@ impl Session {
             size,
             number: true,
             chain: Chain::new(),
-            last: Last::Nothing,
+            last: None,
         }
     }
 
     // Takes a chained I-block, which R(ACK) answers.
-    pub fn take_chained(&mut self, inf: &[u8], reply: &mut Reply)
-        requires { held reply.old ≡ [] }
+    pub fn take_chained(&mut self, inf: &[u8]) -> Body
         ensures session { model self.new ≡ after_chained (model self.old) inf.now }
-        ensures reply { held reply.new ≡ last_body (after_chained (model self.old) inf.now) }
-        ensures short { length (held reply.new) ≤ 254 }
+        ensures body { held result ≡ last_body (after_chained (model self.old) inf.now) }
     {
         self.chain.add(inf);
         self.set_last(Last::Acknowledgement);
-        self.write_last(reply);
+        self.last_body()
     }
 
     // Joins the INF of an unchained I-block to the chain, if there is one.
@@ -72,40 +69,36 @@ impl Session {
     }
 
     // Answers an unchained I-block: the first piece goes out.
-    pub fn answer(&mut self, answer: Answer, reply: &mut Reply)
-        requires { held reply.old ≡ [] }
-        ensures session { model self.new ≡ after_answer (model self.old) (whole answer) }
-        ensures reply { held reply.new ≡ last_body (after_answer (model self.old) (whole answer)) }
-        ensures short { length (held reply.new) ≤ 254 }
+    pub fn answer(&mut self, answer: Answer) -> Body
+        ensures session { model self.new ≡ after_answer (model self.old) (held answer) }
+        ensures body { held result ≡ last_body (after_answer (model self.old) (held answer)) }
     {
         let first = Sending::new(answer).next(self.inf_size());
         self.chain = Chain::new();
         self.set_last(Last::Piece(first));
-        self.write_last(reply);
+        self.last_body()
     }
 
     // Takes R(ACK): with the tag's number it asks for the last block again, with the other one for the next piece.
-    pub fn take_ack(&mut self, number: bool, reply: &mut Reply)
-        requires { held reply.old ≡ [] }
+    pub fn take_ack(&mut self, number: bool) -> Body
         ensures session { model self.new ≡ after_ack (model self.old) number }
-        ensures reply { held reply.new ≡ ack_reply (model self.old) number }
-        ensures short { length (held reply.new) ≤ 254 }
+        ensures body { held result ≡ ack_reply (model self.old) number }
     {
         if self.has_number(number) || self.next_piece() {
-            self.write_last(reply);
+            self.last_body()
+        } else {
+            Body::new()
         }
     }
 
     // Takes R(NAK): with the tag's number it asks for the last block again, with the other one for R(ACK).
-    pub fn take_nak(&self, number: bool, reply: &mut Reply)
-        requires { held reply.old ≡ [] }
-        ensures reply { held reply.new ≡ nak_reply (model self.now) number }
-        ensures short { length (held reply.new) ≤ 254 }
+    pub fn take_nak(&self, number: bool) -> Body
+        ensures { held result ≡ nak_reply (model self.now) number }
     {
         if self.has_number(number) {
-            self.write_last(reply);
+            self.last_body()
         } else {
-            reply.push(&[ack_pcb(self.number)]);
+            self.ack_body()
         }
     }
 
@@ -129,7 +122,7 @@ impl Session {
         ensures sent { result ≡ nat_lt 0 (length (model self.old).rest) }
         ensures session { model self.new ≡ next_sent (model self.old) }
     {
-        let Last::Piece(sending) = self.last else {
+        let Some(Last::Piece(sending)) = self.last else {
             return false;
         };
         if !sending.goes_on() {
@@ -141,24 +134,31 @@ impl Session {
 
     // Makes a block the last one sent. Each is sent under the number that the last one did not have.
     fn set_last(&mut self, last: Last)
-        ensures { model self.new ≡ toggled (model self.old) (model self.old).chain (last_of last) (rest_of last) }
+        ensures { model self.new ≡ toggled (model self.old) (model self.old).chain (last_of (Some last)) (rest_of (Some last)) }
     {
         self.number = !self.number;
-        self.last = last;
+        self.last = Some(last);
     }
 
-    // Writes the body of the last I-block, or R(ACK) to an I-block, if there was one.
-    fn write_last(&self, reply: &mut Reply)
-        requires { held reply.old ≡ [] }
-        ensures reply { held reply.new ≡ last_body (model self.now) }
-        ensures short { length (held reply.new) ≤ 254 }
+    // R(ACK) under the tag's number.
+    fn ack_body(&self) -> Body
+        ensures { held result ≡ ack_pcb (model self.now).number ∷ [] }
+    {
+        Body::of(&[ack_pcb(self.number)])
+    }
+
+    // The last I-block, or R(ACK) to an I-block, if there was one.
+    fn last_body(&self) -> Body
+        ensures { held result ≡ last_body (model self.now) }
     {
         match self.last {
-            Last::Nothing => {}
-            Last::Acknowledgement => reply.push(&[ack_pcb(self.number)]),
-            Last::Piece(sending) => {
-                reply.push(&[i_pcb(self.number, sending.goes_on())]);
-                reply.push(sending.piece());
+            None => Body::new(),
+            Some(Last::Acknowledgement) => self.ack_body(),
+            Some(Last::Piece(sending)) => {
+                let mut body = Body::new();
+                body.push(&[i_pcb(self.number, sending.goes_on())]);
+                body.push(sending.piece());
+                body
             }
         }
     }

@@ -1,10 +1,7 @@
-ghost use Rattle.std.specs.Prelude.{◌≤◌};
+use buffer::Buffer;
 
-// The INFs of the chained I-blocks so far. Past 256 bytes they are only known to be too many.
+// The INFs of the chained I-blocks so far; none where they have over 256 bytes, which no command has.
 #[derive(Clone, Copy)]
 pub struct Chain {
-    pub(crate) bytes: [u8; 256],
-    pub(crate) used: usize,
-    pub(crate) over: bool,
-    ghost within: { used ≤ 256 },
+    pub(crate) infs: Option<Buffer<256>>,
 }

@@ -1,5 +1,5 @@
 ghost use Rattle.std.specs.Prelude.{◌≡◌, ◌≤◌, length, take, drop, nat_lt};
-ghost use Rattle.command.specs.Performed.{whole};
+ghost use Rattle.buffer.specs.Held.{held};
 ghost use Rattle.session.specs.View.{goes_on, left, part};
 
 use crate::sending::Sending;
@@ -8,7 +8,7 @@ use command::Answer;
 impl Sending {
     // An answer of which nothing has gone out.
     pub(crate) fn new(answer: Answer) -> Sending
-        ensures { left result ≡ whole answer }
+        ensures { left result ≡ held answer }
     {
         Sending {
             answer,

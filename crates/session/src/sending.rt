@@ -1,5 +1,5 @@
 ghost use Rattle.std.specs.Prelude.{◌≤◌, length};
-ghost use Rattle.command.specs.Performed.{whole};
+ghost use Rattle.buffer.specs.Held.{held};
 
 use command::Answer;
 
@@ -10,5 +10,5 @@ pub struct Sending {
     pub(crate) from: usize,
     pub(crate) to: usize,
     ghost ordered: { from ≤ to },
-    ghost within: { to ≤ length (whole answer) },
+    ghost within: { to ≤ length (held answer) },
 }

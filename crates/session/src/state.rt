@@ -5,7 +5,6 @@ use type_b::FrameSize;
 // The last I-block, or R(ACK) to an I-block, which an R-block with the tag's number asks for again.
 #[derive(Clone, Copy)]
 pub enum Last {
-    Nothing,
     Acknowledgement,
     Piece(Sending),
 }
@@ -16,5 +15,5 @@ pub struct Session {
     pub(crate) size: FrameSize,
     pub(crate) number: bool,
     pub(crate) chain: Chain,
-    pub(crate) last: Last,
+    pub(crate) last: Option<Last>,
 }

@@ -1,17 +1,14 @@
 //! simulator [--strict] [SCRIPT]: answers the lines of a script, from a file or from standard input, as they come.
 #![tactic(auto)]
 
+use answering::{Failure, Simulator};
 use anyhow::anyhow;
-use console::{Device, block_read, call_of};
 use options::Options;
-use printing::{show, show_dumped, show_refusal, show_want_of_memory};
-use runner::{Answer, Call};
-use script::{Contents, Request, StoreKind, read_line};
-use std::alloc::Global;
 use std::io::{BufRead, BufReader, BufWriter, Write};
 use std::process::ExitCode;
-use std::{env, fs, io};
+use std::{env, fs};
 
+mod answering;
 mod options;
 
 fn main(rt: HostRuntime) -> ExitCode {
@@ -52,125 +49,21 @@ fn serve_file(rt: &HostRuntime, path: &str) -> anyhow::Result<Option<u64>> {
     }
 }
 
-// Answers each line before the next is read, and says how many could not be read.
+// Answers each line before the next is read, and says how many were in error.
 fn serve<B: BufRead + Drop>(rt: &HostRuntime, input: B) -> anyhow::Result<u64> {
     let heap = rt.alloc();
-    let mut out = BufWriter::new(heap, rt.stdout())?;
-    let mut device = example();
-    let mut number: u64 = 0;
+    let mut simulator = Simulator::new(heap, BufWriter::new(heap, rt.stdout())?);
     let mut errors: u64 = 0;
-    for line in input.split(heap, b'\n') {
-        let line = line?;
-        number = number.saturating_add(1);
-        let (next, good) = answer(heap, device, line.as_slice(), number, &mut out)?;
-        device = next;
-        if !good {
-            errors = errors.saturating_add(1);
+    for (number, line) in (1u64..).zip(input.split(heap, b'\n')) {
+        match simulator.answer(line?.as_slice()) {
+            Ok(()) => {}
+            Err(Failure::Output(error)) => return Err(error.into()),
+            Err(failure) => {
+                writeln!(simulator.out, "error line {number}: {failure}")?;
+                errors = errors.saturating_add(1);
+            }
         }
-        out.flush()?;
+        simulator.out.flush()?;
     }
     Ok(errors)
-}
-
-// The tag that a run starts with.
-fn example() -> Device {
-    match Device::load(StoreKind::Flat, &Contents::Example) {
-        Ok(device) => device,
-        Err(_) => unreachable(),
-    }
-}
-
-// Answers one line; false where it could not be read. The device is as before then.
-fn answer<W: Write>(
-    heap: Global,
-    device: Device,
-    line: &[u8],
-    number: u64,
-    out: &mut W,
-) -> anyhow::Result<(Device, bool)> {
-    match read_line(heap, line) {
-        Ok(Some(request)) => obey(heap, device, &request, number, out),
-        Ok(None) => Ok((device, true)),
-        Err(fault) => {
-            writeln!(out, "error line {number}: {}", fault.message())?;
-            Ok((device, false))
-        }
-    }
-}
-
-fn obey<W: Write>(
-    heap: Global,
-    device: Device,
-    request: &Request,
-    number: u64,
-    out: &mut W,
-) -> anyhow::Result<(Device, bool)> {
-    if let Some(call) = call_of(request) {
-        return one_call(heap, device, &call, number, out);
-    }
-    if let Request::Tag { store, contents } = request {
-        return renew(device, *store, contents, out);
-    }
-    dump(heap, device, number, out)
-}
-
-// A new tag, or the refusal and the tag as it was.
-fn renew<W: Write>(
-    device: Device,
-    store: StoreKind,
-    contents: &Contents,
-    out: &mut W,
-) -> anyhow::Result<(Device, bool)> {
-    match Device::load(store, contents) {
-        Ok(new) => {
-            writeln!(out, "ok")?;
-            Ok((new, true))
-        }
-        Err(refusal) => {
-            show_refusal(out, refusal)?;
-            Ok((device, true))
-        }
-    }
-}
-
-fn one_call<W: Write>(
-    heap: Global,
-    device: Device,
-    call: &Call<'_>,
-    number: u64,
-    out: &mut W,
-) -> anyhow::Result<(Device, bool)> {
-    let (device, answer) = device.perform(heap, call);
-    match answer {
-        Ok(answer) => {
-            show(out, &answer)?;
-            Ok((device, true))
-        }
-        Err(_) => {
-            show_want_of_memory(out, number)?;
-            Ok((device, false))
-        }
-    }
-}
-
-// All blocks, a line each.
-fn dump<W: Write>(
-    heap: Global,
-    device: Device,
-    number: u64,
-    out: &mut W,
-) -> anyhow::Result<(Device, bool)> {
-    let mut device = device;
-    for block in 0..32u16 {
-        let read = block_read(block);
-        let (next, answer) = device.perform(heap, &read);
-        device = next;
-        if let Ok(Answer::Read { result: _, buffer }) = answer {
-            show_dumped(out, block, buffer.as_slice())?;
-        } else {
-            show_want_of_memory(out, number)?;
-            return Ok((device, false));
-        }
-    }
-    Ok((device, true))
 }

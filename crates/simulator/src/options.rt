@@ -12,14 +12,15 @@ pub fn from_args(args: Args) -> anyhow::Result<Options> {
     let mut strict = false;
     let mut script = None;
     for arg in args.skip(1) {
-        if arg.as_str() == "--strict" {
-            strict = true;
-        } else if arg.as_str().starts_with('-') {
-            return Err(anyhow!("unknown option; usage: simulator [--strict] [SCRIPT]"));
-        } else if script.is_some() {
-            return Err(anyhow!("more than one script; usage: simulator [--strict] [SCRIPT]"));
-        } else {
-            script = Some(arg);
+        match arg.as_str() {
+            "--strict" => strict = true,
+            option if option.starts_with('-') => {
+                return Err(anyhow!("unknown option; usage: simulator [--strict] [SCRIPT]"));
+            }
+            _ if script.is_some() => {
+                return Err(anyhow!("more than one script; usage: simulator [--strict] [SCRIPT]"));
+            }
+            _ => script = Some(arg),
         }
     }
     Ok(Options { strict, script })

@@ -1,6 +1,6 @@
 -- What a flat store means. Assumes nothing.
-use Rattle.memory.specs.Memory.{Memory, blocks_of}
+use Rattle.memory.specs.Memory.{Memory}
 use Rattle.stores.specs.declared.flat.FlatStore.{FlatStore}
 
 abbrev pub flat_blocks : FlatStore → Memory
-flat_blocks s = blocks_of s.cells
+flat_blocks s = s.blocks

@@ -1,5 +1,5 @@
 -- What a log of block writes means. Assumes nothing.
-use Rattle.std.specs.Prelude.{◌≡◌, ℕ, zero, suc, ◌<◌, cond, List, [], ◌∷◌, ◌++◌, length, take, replicate, Some, None, Option, ◌==◌, nat_lt}
+use Rattle.std.specs.Prelude.{◌≡◌, ℕ, zero, suc, ◌<◌, cond, List, [], ◌∷◌, ◌++◌, length, replicate, Some, None, Option, ◌==◌, nat_lt}
 use Rattle.std.specs.Option.{option_to_list}
 use Rattle.memory.specs.Memory.{Memory, block_at, block_count, block_size, with_block, zeros}
 use Rattle.stores.specs.declared.entry.Entry.{Entry}
@@ -11,7 +11,7 @@ capacity = 64
 
 -- the entries of a log, the oldest first
 abbrev pub entries : LogStore → List Entry
-entries s = take s.log.count s.log.cells
+entries s = s.log.items
 
 -- the memory after these writes, one after the other
 abbrev pub replayed : Memory → List Entry → Memory

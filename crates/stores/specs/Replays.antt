@@ -1,8 +1,10 @@
 -- The laws of a log: its newest entries, its replay and its fold. Assumes nothing.
-use Rattle.std.specs.Prelude.{◌≡◌, ℕ, zero, suc, ◌+◌, ◌<◌, ◌≤◌, Bool, true, false, cond, List, [], ◌∷◌, ◌++◌, length, take, IfSome, Some, None, Option, ◌==◌, ◌≢◌, nat_lt, slice_index_or, refl}
+use Rattle.std.specs.Prelude.{◌≡◌, ℕ, zero, suc, ◌+◌, ◌<◌, ◌≤◌, Bool, true, false, cond, List, [], ◌∷◌, ◌++◌, length, IfSome, Some, None, Option, ◌==◌, ◌≢◌, nat_lt, refl}
 use Rattle.std.proofs.Common.{ap, ap₂, sym, ◌∙◌, inl, inr, arith, not-suc-le-zero, add-one, length-set, get_or-set_same, get_or-set_other}
-use Rattle.std.proofs.lemmas.List.{ext_get_or, take_more}
+use Rattle.std.proofs.lemmas.List.{ext_get_or, reverse-append}
 use Rattle.std.proofs.lemmas.Bool.{cases_eq, cases_lt, eq-eqb, ne_eqb}
+use mathlib.Core.List.{reverse}
+use Rattle.std.specs.List.{find}
 use Rattle.std.specs.Option.{option_to_list}
 use Rattle.memory.specs.Memory.{Memory, Shaped, block_at, block_count, with_block, zeros}
 use Rattle.stores.specs.declared.entry.Entry.{Entry}
@@ -66,11 +68,21 @@ newest_append (x ∷ xs) ys b =
     ap (λ (o : Option Entry). or_older o (cond (x.block.index == b) (Some x) None)) (newest_append xs ys b)
     ∙ sym (or_older_assoc (newest ys b) (newest xs b) (cond (x.block.index == b) (Some x) None))
 
-pub newest_here : (es : List Entry) (e : Entry) (b : ℕ) → e.block.index ≡ b → newest (es ++ e ∷ []) b ≡ Some e
-newest_here es e b q = newest_append es (e ∷ []) b ∙ ap (λ (t : Bool). or_older (cond t (Some e) None) (newest es b)) (eq-eqb e.block.index b q)
+-- the newest entry is the first that a search from the end meets
+found_before : (p : Entry → Bool) (xs : List Entry) (e : Entry) → find p (xs ++ e ∷ []) ≡ or_older (find p xs) (cond (p e) (Some e) None)
+found_before p [] e = refl
+found_before p (x ∷ xs) e = by (p x) (found_before p xs e)
+  where
+    by : (t : Bool) → find p (xs ++ e ∷ []) ≡ or_older (find p xs) (cond (p e) (Some e) None) →
+        cond t (Some x) (find p (xs ++ e ∷ [])) ≡ or_older (cond t (Some x) (find p xs)) (cond (p e) (Some e) None)
+    by true h = refl
+    by false h = h
 
-pub newest_below : (es : List Entry) (e : Entry) (b : ℕ) → (e.block.index ≢ b) → newest (es ++ e ∷ []) b ≡ newest es b
-newest_below es e b ne = newest_append es (e ∷ []) b ∙ ap (λ (t : Bool). or_older (cond t (Some e) None) (newest es b)) (ne_eqb e.block.index b ne)
+pub newest_found : (es : List Entry) (b : ℕ) → find (λ e. e.block.index == b) (reverse es) ≡ newest es b
+newest_found [] b = refl
+newest_found (e ∷ es) b =
+    ap (find (λ x. x.block.index == b)) (reverse-append (e ∷ []) es) ∙ found_before (λ x. x.block.index == b) (reverse es) e
+    ∙ ap (λ (o : Option Entry). or_older o (cond (e.block.index == b) (Some e) None)) (newest_found es b)
 
 -- a newest entry is one of its block
 abbrev Of : ℕ → Option Entry → Type 0
@@ -138,10 +150,7 @@ room_means es = by (nat_lt (length es) capacity)
     by true = refl
     by false = fold_means es
 
--- the entries up to the one that a loop has come to
-pub last_taken : (es : List Entry) (i n : ℕ) (e : Entry) → i + 1 ≡ n → i < length es → e ≡ slice_index_or es i e → take n es ≡ take i es ++ e ∷ []
-last_taken es i n e s l q = ap (λ (k : ℕ). take k es) (sym s) ∙ take_more es i e l ∙ ap (λ (x : Entry). take i es ++ x ∷ []) (sym q)
-
+-- the read
 pub read_back : (es : List Entry) (b : ℕ) (o : Option Entry) → b < block_count → o ≡ newest es b → held_by o ≡ block_at (replayed zeros es) b
 read_back es b o h e = ap held_by e ∙ sym (newest_counts es b h)
 

@@ -1,9 +1,8 @@
-ghost use Rattle.std.specs.Prelude.{◌≡◌, length};
-ghost use Rattle.memory.specs.Memory.{memory_size};
+ghost use Rattle.memory.specs.Memory.{Shaped};
 
 // A store that keeps the 512 bytes in their order.
 #[derive(Drop)]
 pub struct FlatStore {
-    pub(crate) cells: [u8; 512],
-    ghost full: { length cells ≡ memory_size },
+    pub(crate) blocks: [[u8; 16]; 32],
+    ghost sized: { Shaped blocks },
 }

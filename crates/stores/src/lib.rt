@@ -4,11 +4,11 @@
 mod entry;
 mod flat;
 mod flat_store;
+mod load;
 mod log;
 mod log_store;
-mod table;
-mod table_slots;
 
 pub use flat::FlatStore;
+pub use load::Load;
 pub use log::LogStore;
 pub use log_store::newest_entry_counts;

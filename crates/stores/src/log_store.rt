@@ -1,99 +1,45 @@
-ghost use Rattle.std.specs.Prelude.{◌≡◌, ◌+◌, ◌<◌, ◌≤◌, [], ◌∷◌, ◌++◌, length};
-ghost use Rattle.std.specs.Option.{option_to_list};
+ghost use Rattle.std.specs.Prelude.{◌≡◌, ◌<◌, ◌≤◌, [], length};
 ghost use Rattle.memory.specs.Memory.{block_at, block_count, with_block, zeros};
-ghost use Rattle.stores.specs.declared.entry.Entry.{Entry};
-ghost use Rattle.stores.specs.Images.{Loaded};
 ghost use Rattle.stores.specs.Log.{entries, log_blocks, newest, fold, capacity, with_room, NewestEntryCounts, Logged};
 ghost use Rattle.memory.proofs.Shapes.{shaped_zeros};
 ghost use Rattle.stores.specs.Replays.{shaped_replayed};
 
 use crate::entry::Entry;
+use crate::load::Load;
 use crate::log::LogStore;
-use crate::table::Table;
-use memory::{Address, BlockNumber, PastEnd, Refusal, Store, write_bytes};
-
-// How many entries the table has room for, as its type says.
-fn places(cells: &[Entry; 64]) -> usize
-    ensures { (result ≡ capacity) × (length cells.now ≡ capacity) }
-{
-    cells.len()
-}
+use arrayvec::ArrayVec;
+use memory::{Address, BlockNumber, Refusal, Store, write_bytes};
 
 impl LogStore {
-    // A store of zeros: a log without entries, since a block without one holds zeros.
-    pub fn zeros() -> LogStore
-        ensures blocks { log_blocks result ≡ zeros }
-        ensures none { result.log.count ≡ 0 }
-    {
-        let filling = Entry {
-            block: BlockNumber::known(0),
-            bytes: [0; 16],
-        };
-        LogStore {
-            log: Table::empty(filling),
-        }
-    }
-
-    // A store that holds an image of the whole memory, an entry for each block.
-    pub fn load(image: &[u8]) -> Result<LogStore, Refusal>
-        ensures { Loaded log_blocks image.now result }
-    {
-        if image.len() != 512 {
-            return Err(Refusal::NotImageSized);
-        }
-        let mut store = LogStore::zeros();
-        match write_bytes(&mut store, Address::ZERO, image) {
-            Ok(()) => Ok(store),
-            Err(PastEnd) => Err(Refusal::NotImageSized),
-        }
-    }
-
     // The newest entry of a block, if it has one.
     fn newest(&self, b: BlockNumber) -> Option<Entry>
         ensures { result ≡ newest (entries self.now) b.index }
     {
-        for i in (0..self.log.count).rev() {
-            let e = self.log.get(i);
-            if e.block.index() == b.index() {
-                return Some(e);
-            }
-        }
-        None
+        self.log.iter().rev().find(|e| e.block == b).copied()
     }
 
-    // One entry more, in the next free place of the table.
-    fn append(&mut self, e: Entry)
-        requires { self.old.log.count < capacity }
-        ensures entries { entries self.new ≡ entries self.old ++ e ∷ [] }
-        ensures count { self.new.log.count ≡ self.old.log.count + 1 }
-    {
-        let n = self.log.count;
-        *self.log.slot(n) = e;
-        self.log.count = n + 1;
-    }
-}
-
-impl LogStore {
-    fn append_some(&mut self, e: Option<Entry>)
-        requires { self.old.log.count < capacity }
-        ensures entries { entries self.new ≡ entries self.old ++ option_to_list e }
-        ensures count { self.new.log.count ≤ self.old.log.count + 1 }
-    {
-        if let Some(e) = e {
-            self.append(e);
-        }
-    }
-
-    // Keeps the newest entry of each block, and no other.
+    // Keeps the newest entry of each block, and no other. A loop: `extend` of a vector of fixed capacity tells of failing, and not that there was room.
     fn fold(&mut self)
         ensures entries { entries self.new ≡ fold block_count (entries self.old) }
-        ensures count { self.new.log.count ≤ block_count }
+        ensures count { length (entries self.new) ≤ block_count }
     {
-        let mut kept = LogStore::zeros();
+        let mut kept = ArrayVec::new();
         for i in 0..32 {
-            kept.append_some(self.newest(BlockNumber::known(i)));
+            if let Some(e) = self.newest(BlockNumber::known(i)) {
+                kept.push(e);
+            }
         }
-        *self = kept;
+        self.log = kept;
+    }
+
+    // A full log is folded before a write goes on.
+    fn make_room(&mut self)
+        ensures entries { entries self.new ≡ with_room (entries self.old) }
+        ensures room { length (entries self.new) < capacity }
+    {
+        if self.log.is_full() {
+            self.fold();
+        }
     }
 
     // A block without an entry holds zeros.
@@ -111,19 +57,10 @@ impl LogStore {
         ensures logged { Logged (entries self.old) b.index block.now (entries self.new) }
     {
         self.make_room();
-        self.append(Entry {
+        self.log.push(Entry {
             block: b,
             bytes: *block,
         });
-    }
-
-    fn make_room(&mut self)
-        ensures entries { entries self.new ≡ with_room (entries self.old) }
-        ensures room { self.new.log.count < capacity }
-    {
-        if self.log.count == places(&self.log.cells) {
-            self.fold();
-        }
     }
 }
 
@@ -141,6 +78,27 @@ impl Store for LogStore {
         ensures logged { Logged (entries self.old) b.index block.now (entries self.new) }
     {
         self.log_write(b, block);
+    }
+}
+
+impl Load for LogStore {
+    // A log without entries, since a block without one holds zeros.
+    fn zeros() -> LogStore
+        ensures blocks { log_blocks result ≡ zeros }
+        ensures none { entries result ≡ [] }
+    {
+        LogStore {
+            log: ArrayVec::new(),
+        }
+    }
+
+    // An entry for each block.
+    fn load(image: &[u8]) -> Result<LogStore, Refusal> {
+        let mut store = LogStore::zeros();
+        match write_bytes(&mut store, Address::ZERO, image) {
+            Ok(()) if image.len() == 512 => Ok(store),
+            _ => Err(Refusal::NotImageSized),
+        }
     }
 }
 

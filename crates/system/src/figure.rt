@@ -1,7 +1,7 @@
 use memory::BlockNumber;
 
 // How many user blocks frames may write, and the lowest of them, if there is one.
-#[derive(Clone, Copy)]
+#[derive(Clone, Copy, Debug, PartialEq, Eq)]
 pub struct Writable {
     pub count: u32,
     pub lowest: Option<BlockNumber>,

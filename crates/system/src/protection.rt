@@ -9,16 +9,16 @@ use memory::BlockNumber;
 // The user blocks, 0 to 26, a bit for each.
 const USER_BLOCKS: u32 = 0x07FF_FFFF;
 
-// Block 31: which blocks frames may read and write.
-#[derive(Clone, Copy)]
+// Block 31: which blocks frames may read and write. (Of 16 bytes as `Identity` is, which tells why they share no type.)
+#[derive(Clone, Copy, PartialEq, Eq, Debug)]
 pub struct Protection {
     bytes: [u8; 16],
     ghost whole: { length bytes ≡ block_size },
 }
 
 // Whether a field of four bytes has the bit of a block.
-fn is_set(field: &[u8], b: BlockNumber) -> bool
-    requires { length field.now ≡ 4 }
+#[tactic(auto, unfolding(crate::specs::Protection::flagged))]
+fn is_set(field: &[u8; 4], b: BlockNumber) -> bool
     ensures { result ≡ flagged field.now b.index }
 {
     let byte = field[b.index() as usize / 8];
@@ -26,11 +26,10 @@ fn is_set(field: &[u8], b: BlockNumber) -> bool
 }
 
 // A field of four bytes as one word, bit b of it being the bit of block b.
-fn word(field: &[u8]) -> u32
-    requires { length field.now ≡ 4 }
+fn word(field: &[u8; 4]) -> u32
     ensures { Word field.now result }
 {
-    u32::from_le_bytes([field[0], field[1], field[2], field[3]])
+    u32::from_le_bytes(*field)
 }
 
 impl Protection {
@@ -41,24 +40,24 @@ impl Protection {
     }
 
     // RORF: a bit for each read-only block.
-    pub fn rorf(&self) -> &[u8]
+    pub fn rorf(&self) -> &[u8; 4]
         ensures { result.now ≡ rorf self.now.bytes }
     {
-        &self.bytes[0..4]
+        self.bytes[0..4].as_array().unwrap()
     }
 
     // ROSI: kept, and of no effect on frames.
-    pub fn rosi(&self) -> &[u8]
+    pub fn rosi(&self) -> &[u8; 4]
         ensures { result.now ≡ rosi self.now.bytes }
     {
-        &self.bytes[4..8]
+        self.bytes[4..8].as_array().unwrap()
     }
 
     // SECURITY: a bit for each block that is closed unless it is read-only.
-    pub fn security(&self) -> &[u8]
+    pub fn security(&self) -> &[u8; 4]
         ensures { result.now ≡ security self.now.bytes }
     {
-        &self.bytes[8..12]
+        self.bytes[8..12].as_array().unwrap()
     }
 
     pub fn is_read_only(&self, b: BlockNumber) -> bool
@@ -100,18 +99,10 @@ impl Protection {
         ensures { Figure self.now.bytes result }
     {
         let mask = self.unprotected();
-        let count = mask.count_ones();
-        let low = mask.trailing_zeros();
-        if low < 27 {
-            Writable {
-                count,
-                lowest: Some(BlockNumber::known(low as u8)),
-            }
-        } else {
-            Writable {
-                count,
-                lowest: None,
-            }
+        let lowest = mask.trailing_zeros();
+        Writable {
+            count: mask.count_ones(),
+            lowest: (lowest < 27).then(|| BlockNumber::known(lowest as u8)),
         }
     }
 }

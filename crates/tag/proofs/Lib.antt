@@ -1,7 +1,6 @@
 mod Placing
 mod Listing
 mod Replies
-mod Counting
 pub mod Kinded
 mod Sessions
 mod Tracing

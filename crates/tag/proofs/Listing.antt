@@ -2,11 +2,11 @@
 use Rattle.std.proofs.Common.{◌≡◌, ℕ, ◌*◌, ◌<◌, true, false, cond, eqb, List, [], ◌∷◌, ◌++◌, length, take, drop, Some, None, Ok, Err, Option, Result, sym, refl, ap, ◌∙◌, ap₂, arith, length-drop, length-take-le}
 use lib.Seq.{take-append_seam}
 use Rattle.std.proofs.lemmas.Bool.{ne_eqb, both_ways}
-use Rattle.reply.specs.Frames.{jis_frame, type_b_frame}
-use Rattle.tag.specs.Steps.{jis_reply, type_b_reply}
+use Rattle.reply.specs.Frames.{type_b_frame}
+use Rattle.tag.specs.Steps.{type_b_reply}
 use Rattle.memory.specs.Memory.{Memory, Shaped, with_block}
 use Rattle.memory.proofs.Shapes.{shaped_set}
-use Rattle.reply.specs.Held.{over, sent}
+use Rattle.reply.specs.Sent.{over, sent}
 use Rattle.jis.specs.declared.fault.Fault.{Fault}
 use Rattle.jis.specs.Elements.{numbers}
 use Rattle.jis.specs.Commands.{Asked, req, read, write}
@@ -40,7 +40,7 @@ heard_is (x ∷ xs) before after n e a =
     ap₂ (λ k y. heard (Ok k) y) (e ∙ some) a ∙ take-append_seam (x ∷ xs) (drop (length (x ∷ xs)) before)
 
 -- what is not empty is sealed
-pub sealed : (xs out : List ℕ) → eqb (length xs) 0 ≡ false → out ≡ jis_frame xs → out ≡ jis_reply xs
+pub sealed : (xs out : List ℕ) → eqb (length xs) 0 ≡ false → out ≡ type_b_frame xs → out ≡ type_b_reply xs
 sealed [] out h e = absurd (both_ways true h refl)
 sealed (x ∷ xs) out h e = e
 
@@ -50,7 +50,3 @@ wrote_nothing (Ok (req code request slot)) reply h = refl
 wrote_nothing (Ok (read services n list)) reply h = refl
 wrote_nothing (Ok (write services n list d)) reply h = ap (λ t. cond t (in_blocks (numbers n list) d) []) h
 wrote_nothing (Err e) reply h = refl
-
-pub sealed_b : (xs out : List ℕ) → eqb (length xs) 0 ≡ false → out ≡ type_b_frame xs → out ≡ type_b_reply xs
-sealed_b [] out h e = absurd (both_ways true h refl)
-sealed_b (x ∷ xs) out h e = e

@@ -16,8 +16,9 @@ use Rattle.jis.specs.Answers.{flags_payload, read_payload}
 use Rattle.jis.specs.Faults.{answer_code, answer_to, flags_of}
 use Rattle.jis.specs.Elements.{numbers}
 use Rattle.jis.specs.Commands.{Asked, req, read, write, command_of}
+use Rattle.jis.proofs.Listing.{numbers_length}
 use Rattle.jis_service.specs.Service.{every, fault_payload, written_in, payload_for, memory_for}
-use Rattle.jis_service.proofs.Taken.{own_command, lawful_command, Users, users, how_many}
+use Rattle.jis_service.proofs.Taken.{own_command, lawful_command, Users, users}
 use Rattle.tag.specs.Puts.{in_blocks, puts}
 use Rattle.tag.specs.Steps.{jis_reply}
 use Rattle.tag.specs.Account.{identifier_in, normal, wrote_listed}
@@ -95,7 +96,7 @@ module _ (identity protection : List ℕ) (li : length identity ≡ 16) (m : Mem
       puts m (cond (normal (jis_reply (cond t (flags_payload 0x09 (idm identity) status.Normal) (flags_payload 0x09 (idm identity) status.Protected)))) (in_blocks (numbers n list) d) [])
   wrote services n list d e true h =
       let l = lawful_command (idm identity) f (write services n list d) e in
-      let k : length d ≡ 16 * length (numbers n list) = l.1 ∙ ap (λ z. 16 * z) (sym (how_many n list)) in
+      let k : length d ≡ 16 * length (numbers n list) = l.1 ∙ ap (λ z. 16 * z) (sym (numbers_length n list)) in
       put_blocks m (numbers n list) d sm (users n list l.0) k ∙ ap (λ t. puts m (cond t (in_blocks (numbers n list) d) [])) (sym (says_alone 0x09 (idm identity) status.Normal id_length))
   wrote services n list d e false h = ap (λ t. puts m (cond t (in_blocks (numbers n list) d) [])) (sym (says_alone 0x09 (idm identity) status.Protected id_length))
 
@@ -136,7 +137,7 @@ module _ (identity protection : List ℕ) (li : length identity ≡ 16) (m : Mem
     jis_gives a h =
         let r = is_read a h in
         let s = lawful_command (idm identity) f (read services n list) r in
-        let k : length (flat_map (λ x. x) (map (block_at m) (numbers n list))) ≡ 16 * n = joined_length m (numbers n list) sm (users n list s) ∙ ap (λ z. 16 * z) (how_many n list) in
+        let k : length (flat_map (λ x. x) (map (block_at m) (numbers n list))) ≡ 16 * n = joined_length m (numbers n list) sm (users n list s) ∙ ap (λ z. 16 * z) (numbers_length n list) in
         ap (λ z. take (16 * n) (drop 13 (answered z))) r
         ∙ ap (λ t. take (16 * n) (drop 13 (jis_reply (cond t (read_payload (idm identity) (map (block_at m) (numbers n list))) (flags_payload 0x07 (idm identity) status.Protected))))) (jis_open a h)
         ∙ blocks_at (idm identity) (map (block_at m) (numbers n list)) (16 * n) id_length k

@@ -8,11 +8,10 @@ use Rattle.memory.specs.Memory.{Memory, bytes_from, with_bytes, with_byte, block
 use Rattle.reply.specs.Frames.{type_b_frame}
 use Rattle.type_b.specs.declared.size.FrameSize.{FrameSize}
 use Rattle.type_b.specs.declared.size.FrameSize.TheVariants.{Bytes64, Bytes96, Bytes128, Bytes256}
-use Rattle.command.specs.declared.access.Access.TheVariants.{Read, Write}
 use Rattle.command.specs.declared.status.Status.{Status}
 use Rattle.command.specs.declared.status.Status.TheVariants.{Normal, WrongLength, WrongClass, WrongInstruction, WrongParameters, NotAllowed}
 use Rattle.command.specs.Orders.{Asked, answered, read, update, status_bytes, Within}
-use Rattle.command.specs.Barred.{barred, touches}
+use Rattle.command.specs.Barred.{Read, Write, barred, touches}
 use Rattle.command.specs.Performed.{answer_to, memory_after}
 use Rattle.session.specs.Chains.{clip}
 use Rattle.session.specs.Model.{SessionModel, inf_size, i_pcb, last_body}

@@ -8,11 +8,11 @@ use Rattle.jis.specs.declared.fault.Fault.{Fault}
 use Rattle.jis.specs.Elements.{numbers}
 use Rattle.jis.specs.Commands as jis-command
 use Rattle.jis.specs.Commands.{command_of}
+use Rattle.jis.proofs.Listing.{numbers_length}
 use Rattle.jis_service.specs.Service.{every, written_in, memory_for}
-use Rattle.jis_service.proofs.Taken.{lawful_command, users, how_many}
+use Rattle.jis_service.proofs.Taken.{lawful_command, users}
 use Rattle.type_b.specs.Frames.{Kind, request, attrib, halt, deselect, information, ack, nak, unknown, kind_of}
-use Rattle.command.specs.declared.access.Access.TheVariants.{Write}
-use Rattle.command.specs.Barred.{barred, touches}
+use Rattle.command.specs.Barred.{Write, barred, touches}
 use Rattle.command.specs.Orders.{Asked, answered, read, update}
 use Rattle.type_b_service.specs.Turns.{Phase, idle, ready, halted, active, completed, effect, counted}
 use Rattle.tag.specs.declared.state.Tag.{Tag}
@@ -87,7 +87,7 @@ shaped_listed x m id f s (Ok (jis-command.write services n list d)) e = by (ever
     by : (t : Bool) → Shaped (cond t (written_in m (numbers n list) d) m)
     by true =
         let l = lawful_command id f (jis-command.write services n list d) e in
-        let k : length d ≡ 16 * length (numbers n list) = l.1 ∙ ap (λ z. 16 * z) (sym (how_many n list)) in
+        let k : length d ≡ 16 * length (numbers n list) = l.1 ∙ ap (λ z. 16 * z) (sym (numbers_length n list)) in
         subst Shaped (sym (put_blocks m (numbers n list) d s (users n list l.0) k)) (shaped_puts m (in_blocks (numbers n list) d) s)
     by false = s
 shaped_listed x m id f s (Err fault) e = s

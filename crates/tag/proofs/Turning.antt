@@ -8,9 +8,8 @@ use Rattle.system.specs.Identity as own
 use Rattle.system.specs.Protection.{may_read, may_write}
 use Rattle.type_b.specs.declared.size.FrameSize.{FrameSize}
 use Rattle.type_b.specs.Frames.{Kind, request, attrib, halt, deselect, information, ack, nak, unknown, kind_of}
-use Rattle.command.specs.declared.access.Access.TheVariants.{Read, Write}
 use Rattle.command.specs.Orders.{Asked, answered, read, update, asked_by, Within}
-use Rattle.command.specs.Barred.{barred, touches}
+use Rattle.command.specs.Barred.{Read, Write, barred, touches}
 use Rattle.command.specs.Performed.{answer_to, memory_after}
 use Rattle.command.proofs.Blocks.{found}
 use Rattle.command.proofs.Ranges.{asked_within}
@@ -18,16 +17,15 @@ use Rattle.session.specs.Chains.{Joined, clip, more, commanded}
 use Rattle.session.specs.Model as model
 use Rattle.session.specs.Model.{SessionModel, started, inf_size, ack_pcb, last_body, after_chained, after_answer, next_sent, after_ack, ack_reply, nak_reply, same_number}
 use Rattle.session.proofs.Joins.{more_clip, commanded_clip}
-use Rattle.type_b_service.specs.Turns.{Phase, idle, ready, halted, active, Turn, silent, sends, in_ready, in_active, listens, fits, atqb, turn, ordered, completed, effect, counted}
+use Rattle.type_b_service.specs.Turns.{Phase, idle, ready, halted, active, Turn, silent, sends, in_ready, in_active, listens, fits, atqb, turn, ordered, completed, effect}
 use Rattle.tag.specs.History.{History}
 use Rattle.tag.specs.Model.{Powered}
-use Rattle.tag.specs.Steps.{protection_of, type_b_body, type_b_reply, completed_by, power_after, memory_by}
+use Rattle.tag.specs.Steps.{protection_of, type_b_body, type_b_reply, power_after, memory_by}
 use Rattle.tag.specs.Performing.{Performed, performed_now, performed_by, performed_in}
 use Rattle.tag.specs.Puts.{puts}
 use Rattle.tag.specs.Account.{Progress, progress, inf_in, ended, follows, completing, completes, wrote_range, read_accepted, update_accepted, readable, writable, fixed_answer, due, due_after, Performance, one_more}
 use Rattle.tag.specs.Runs.{RBlock, r_ack, r_nak, Outgoing}
 use Rattle.tag.specs.Traces.{as_taken}
-use Rattle.tag.proofs.Counting.{count_by, none_counted}
 use Rattle.tag.proofs.Sessions.{Front, Fits, Quiet, Holds, HoldsPower, first_piece, inf_first, none_left, fixed_is, wrote_is, open_read, free_update, unanswered_read}
 
 nothing_written : (c : Option Asked) → wrote_range c [] ≡ []
@@ -205,23 +203,6 @@ module _ (x : Progress) (d : List ℕ) (m : Memory) where
     remembered p (nak n) h = refl
     remembered p unknown h = refl
 
-    counted_at : (c : ℕ) (p : Phase) (inf : List ℕ) → counted c (ordered p inf) ≡ count_by c (Some (asked_by (x.pieces ++ inf))) (type_b_reply (turn identity prot m p (information false inf)).said)
-    counted_at c idle inf = refl
-    counted_at c ready inf = refl
-    counted_at c halted inf = refl
-    counted_at c (active t) inf = refl
-
-    counted_on : (c : ℕ) (p : Phase) (k : Kind) → counted c (completed p k) ≡ count_by c (completes x k) (type_b_reply (turn identity prot m p k).said)
-    counted_on c p (request asked param) = refl
-    counted_on c p (attrib pupi size) = refl
-    counted_on c p (halt pupi) = refl
-    counted_on c p deselect = refl
-    counted_on c p (information true inf) = refl
-    counted_on c p (information false inf) = counted_at c p inf
-    counted_on c p (ack n) = refl
-    counted_on c p (nak n) = refl
-    counted_on c p unknown = refl
-
     -- the command that the history takes for performed is the one that the tag performed, and so is its answer
     told_last : (t : SessionModel) → Fits x d t → (inf : List ℕ) (ps : List Performance) →
         let w = first_piece t.size (not t.number) (answer_to prot m (commanded (more t.chain inf))) in
@@ -313,10 +294,6 @@ pub power_remembered : (x : Progress) (d : List ℕ) (m : Memory) (o : Option Po
     memory_by o m f ≡ puts m (wrote_range (completes x (kind_of f)) (type_b_reply (type_b_body o m f)))
 power_remembered x d m None f s h = silence_writes m (completes x (kind_of f))
 power_remembered x d m (Some p) f s h = remembered x d m p.copy.identity p.copy.protection p.phase (kind_of f) h
-
-pub power_counted : (x : Progress) (m : Memory) (c : ℕ) (o : Option Powered) (f : List ℕ) → counted c (completed_by o f) ≡ count_by c (completes x (kind_of f)) (type_b_reply (type_b_body o m f))
-power_counted x m c None f = none_counted c (completes x (kind_of f))
-power_counted x m c (Some p) f = counted_on x [] m p.copy.identity p.copy.protection c p.phase (kind_of f)
 
 pub silence_told : (ps : List Performance) (c : Option (List ℕ)) (answer : List ℕ) → one_more ps c [] answer ≡ ps
 silence_told ps None answer = refl

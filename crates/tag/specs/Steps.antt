@@ -7,7 +7,7 @@ use Rattle.system.specs.declared.figure.Writable.{Writable}
 use Rattle.system.specs.Identity.{identity_block}
 use Rattle.system.specs.Protection.{protection_block, Figure}
 use Rattle.reply.specs.Frames.{jis_frame, type_b_frame}
-use Rattle.reply.specs.Held.{over, sent}
+use Rattle.reply.specs.Sent.{over, sent}
 use Rattle.jis_service.specs.Service.{reply_payload, memory_after}
 use Rattle.type_b.specs.Frames.{kind_of}
 use Rattle.command.specs.Orders.{Asked}

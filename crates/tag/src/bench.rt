@@ -1,7 +1,7 @@
 ghost use Rattle.tag.specs.History.{bench_read, bench_write, bench_writable, bench_performed};
 ghost use Rattle.tag.specs.View.{Called};
 
-use crate::state::{Field, Tag};
+use crate::state::Tag;
 use memory::{BlockNumber, Refusal, Store};
 use system::Writable;
 
@@ -11,9 +11,7 @@ impl<S: Store> Tag<S> {
     pub fn bench_read(&self, block: u16, out: &mut [u8]) -> Result<(), Refusal>
         ensures { Called S.blocks self.now (bench_read block out.old result out.new) self.now }
     {
-        let Some(number) = BlockNumber::new(block) else {
-            return Err(Refusal::NoSuchBlock);
-        };
+        let number = BlockNumber::try_from(block)?;
         if out.len() != 16 {
             return Err(Refusal::NotBlockSized);
         }
@@ -25,15 +23,11 @@ impl<S: Store> Tag<S> {
     pub fn bench_write(&mut self, block: u16, bytes: &[u8]) -> Result<(), Refusal>
         ensures { Called S.blocks self.old (bench_write block bytes.now result) self.new }
     {
-        let Some(number) = BlockNumber::new(block) else {
-            return Err(Refusal::NoSuchBlock);
-        };
-        if bytes.len() != 16 {
+        let number = BlockNumber::try_from(block)?;
+        let Ok(whole) = <&[u8; 16]>::try_from(bytes) else {
             return Err(Refusal::NotBlockSized);
-        }
-        let mut whole = [0; 16];
-        whole.copy_from_slice(bytes);
-        self.store.write(number, &whole);
+        };
+        self.store.write(number, whole);
         Ok(())
     }
 
@@ -41,12 +35,12 @@ impl<S: Store> Tag<S> {
     pub fn bench_writable(&self) -> Writable
         ensures { Called S.blocks self.now (bench_writable result) self.now }
     {
-        match self.field {
-            Field::Off => Writable {
+        match &self.power {
+            None => Writable {
                 count: 0,
                 lowest: None,
             },
-            Field::On { copy, .. } => copy.protection.writable(),
+            Some(power) => power.copy.protection.writable(),
         }
     }
 

@@ -8,4 +8,4 @@ mod power;
 mod state;
 
 pub use laws::{runs_are_traces, runs_keep, traces_keep};
-pub use state::{Field, Tag};
+pub use state::{Power, Tag};

@@ -1,7 +1,7 @@
 ghost use Rattle.tag.specs.History.{field_on, field_off};
 ghost use Rattle.tag.specs.View.{Made, Called};
 
-use crate::state::{Field, Tag};
+use crate::state::{Power, Tag};
 use memory::{BlockNumber, Store};
 use system::{Identity, Protection, SystemCopy};
 use type_b_service::State;
@@ -13,7 +13,7 @@ impl<S: Store> Tag<S> {
     {
         Tag {
             store,
-            field: Field::Off,
+            power: None,
             performed: 0,
         }
     }
@@ -22,20 +22,17 @@ impl<S: Store> Tag<S> {
     pub fn field_on(&mut self)
         ensures { Called S.blocks self.old field_on self.new }
     {
-        match self.field {
-            Field::Off => {
-                let identity = Identity::new(&self.store.read(BlockNumber::known(30)));
-                let protection = Protection::new(&self.store.read(BlockNumber::known(31)));
-                let copy = SystemCopy {
-                    identity,
-                    protection,
-                };
-                self.field = Field::On {
-                    copy,
-                    state: State::Idle,
-                };
-            }
-            Field::On { .. } => {}
+        if self.power.is_none() {
+            let identity = Identity::new(&self.store.read(BlockNumber::known(30)));
+            let protection = Protection::new(&self.store.read(BlockNumber::known(31)));
+            let copy = SystemCopy {
+                identity,
+                protection,
+            };
+            self.power = Some(Power {
+                copy,
+                state: State::Idle,
+            });
         }
     }
 
@@ -43,6 +40,6 @@ impl<S: Store> Tag<S> {
     pub fn field_off(&mut self)
         ensures { Called S.blocks self.old field_off self.new }
     {
-        self.field = Field::Off;
+        self.power = None;
     }
 }

@@ -4,7 +4,7 @@ use Rattle.std.specs.Str.{bytes_eq}
 use Rattle.checksum.specs.Checksum.{crc_b}
 use Rattle.type_b.specs.Sizes.{size_code}
 use Rattle.type_b.specs.declared.frame.Frame.{Frame}
-use Rattle.type_b.specs.declared.frame.Frame.TheVariants.{Request, Attrib, Halt, Deselect, Information, Ack, Nak, Unknown}
+use Rattle.type_b.specs.declared.frame.Frame.TheVariants.{Request, Attrib, Halt, Deselect, Information, Ack, Nak}
 use Rattle.type_b.specs.declared.size.FrameSize.{FrameSize}
 
 -- a frame by its parts as bytes and numbers; a block number is a bit
@@ -19,15 +19,15 @@ pub data Kind : Type 0 where
   unknown : Kind
 
 -- what the code gives, with each part as its bytes
-abbrev pub kind : Frame → Kind
-kind (Request afi param) = request afi param
-kind (Attrib pupi size) = attrib pupi.now size
-kind (Halt pupi) = halt pupi.now
-kind Deselect = deselect
-kind (Information chained inf) = information chained inf.now
-kind (Ack number) = ack number
-kind (Nak number) = nak number
-kind Unknown = unknown
+abbrev pub kind : Option Frame → Kind
+kind None = unknown
+kind (Some (Request afi param)) = request afi param
+kind (Some (Attrib pupi size)) = attrib pupi.now size
+kind (Some (Halt pupi)) = halt pupi.now
+kind (Some Deselect) = deselect
+kind (Some (Information chained inf)) = information chained inf.now
+kind (Some (Ack number)) = ack number
+kind (Some (Nak number)) = nak number
 
 -- In what follows r is what stands between the first byte and the checksum; the lengths are exact.
 

@@ -9,4 +9,4 @@ mod size;
 pub use frame::Frame;
 pub use laws::{frames_differ, frames_return};
 pub use parsing::{is_intact, taken_apart};
-pub use size::FrameSize;
+pub use size::{FrameSize, UnknownSize};

@@ -1,5 +1,5 @@
 -- The last piece of a command, as the code takes it. Assumes nothing.
-use Rattle.std.proofs.Common.{◌≡◌, ℕ, ◌≤◌, false, List, [], length, sym, ap, ◌∙◌, subst}
+use Rattle.std.proofs.Common.{◌≡◌, ℕ, false, List, [], sym, ap, ◌∙◌, subst}
 use Rattle.memory.specs.Memory.{Memory}
 use Rattle.type_b.specs.Frames.{information}
 use Rattle.command.specs.Performed.{answer_to, memory_after}
@@ -12,7 +12,7 @@ use Rattle.type_b_service.specs.View.{Turned, phase_of}
 
 module _ (x : List ℕ) (m after : Memory) (t j u : SessionModel) (inf a said : List ℕ) (state : State)
     (ej : j ≡ joined_to t inf) (ea : a ≡ answer_to x m (picked_order j.chain inf)) (em : after ≡ memory_after x m (picked_order j.chain inf))
-    (eu : u ≡ after_answer j a) (es : said ≡ last_body (after_answer j a)) (l : length said ≤ 254) (ep : phase_of state ≡ active u) where
+    (eu : u ≡ after_answer j a) (es : said ≡ last_body (after_answer j a)) (ep : phase_of state ≡ active u) where
   order_is : picked_order j.chain inf ≡ commanded (more t.chain inf)
   order_is = ap (λ z. picked_order z.chain inf) ej ∙ picked_is t.chain inf
 
@@ -23,7 +23,6 @@ module _ (x : List ℕ) (m after : Memory) (t j u : SessionModel) (inf a said : 
   last_turned p e = subst (λ z. Turned (turn [] x m z (information false inf)) state said) (sym e) record {
     phase = ep ∙ ap active (eu ∙ session_is);
     body = es ∙ ap last_body session_is;
-    short = l;
   }
 
   pub last_written : (p : Phase) → p ≡ active t → after ≡ effect x m (ordered p inf)

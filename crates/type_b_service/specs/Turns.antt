@@ -71,6 +71,10 @@ atqb identity = (0x50 ∷ []) ++ own.pupi identity ++ (0x00 ∷ 0x00 ∷ 0x00 �
 abbrev pub requested : List ℕ → ℕ → ℕ → Phase → Turn
 requested identity asked param p = cond (listens p param && fits asked (own.afi identity)) (record { phase = ready; said = atqb identity }) (silent p)
 
+-- only a frame with the tag's own name
+abbrev pub if_own : List ℕ → List ℕ → Turn → Turn
+if_own identity name u = cond (bytes_eq name (own.pupi identity)) u (silent ready)
+
 -- 1D for this tag is answered 10, and the session begins
 abbrev pub chosen : List ℕ → List ℕ → FrameSize → Turn
 chosen identity pupi size = cond (bytes_eq pupi (own.pupi identity)) (record { phase = active (started size); said = 0x10 ∷ [] }) (silent ready)

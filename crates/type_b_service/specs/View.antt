@@ -1,5 +1,5 @@
 -- The state as the code keeps it, and a frame served. Assumes nothing.
-use Rattle.std.specs.Prelude.{◌≡◌, ℕ, ◌≤◌, List, length}
+use Rattle.std.specs.Prelude.{◌≡◌, ℕ, List}
 use Rattle.session.specs.View.{model}
 use Rattle.type_b_service.specs.declared.state.State.{State}
 use Rattle.type_b_service.specs.declared.state.State.TheVariants.{Idle, Ready, Active, Halt}
@@ -15,4 +15,3 @@ phase_of Halt = halted
 pub record Turned (u : Turn) (state : State) (said : List ℕ) : Type 0 where
   pub phase : phase_of state ≡ u.phase
   pub body : said ≡ u.said
-  pub short : length said ≤ 254

@@ -1,12 +1,12 @@
-ghost use Rattle.std.specs.Prelude.{◌≡◌, ℕ, ◌≤◌, List, [], length, is_some};
+ghost use Rattle.std.specs.Prelude.{◌≡◌, ℕ, List, ◌∷◌, [], is_some};
 ghost use Rattle.std.specs.Str.{bytes_eq};
-ghost use Rattle.reply.specs.Held.{held};
+ghost use Rattle.buffer.specs.Held.{held};
 ghost use Rattle.system.specs.Identity.{pupi};
-ghost use Rattle.type_b_service.specs.Turns.{atqb, chosen, fits, in_active, in_ready, is_active, laid_down, listens, ordered, requested};
+ghost use Rattle.type_b_service.specs.Turns.{atqb, chosen, fits, if_own, in_ready, is_active, laid_down, listens, ordered, requested};
 ghost use Rattle.type_b_service.specs.View.{Turned, phase_of};
 
 use crate::state::State;
-use reply::Reply;
+use reply::Body;
 use session::Session;
 use system::Identity;
 use type_b::FrameSize;
@@ -39,6 +39,22 @@ fn is_listening(state: &State, param: u8) -> bool
     }
 }
 
+fn is_own(identity: &Identity, name: &[u8]) -> bool
+    ensures { result ≡ bytes_eq name.now (pupi identity.now.bytes) }
+{
+    name == identity.pupi().as_slice()
+}
+
+fn atqb(identity: &Identity) -> Body
+    ensures { held result ≡ atqb identity.now.bytes }
+{
+    let mut body = Body::new();
+    body.push(&[0x50]);
+    body.push(identity.pupi());
+    body.push(&[0x00, 0x00, 0x00, 0x00, 0x91, 0x81, 16 * identity.fwi()]);
+    body
+}
+
 impl State {
     pub fn is_active(&self) -> bool
         ensures value { result ≡ is_active (phase_of self.now) }
@@ -49,86 +65,42 @@ impl State {
             _ => false,
         }
     }
-}
 
-fn is_same(a: &[u8], b: &[u8]) -> bool
-    ensures { result ≡ bytes_eq a.now b.now }
-{
-    a == b
-}
-
-fn is_own(identity: &Identity, name: &[u8]) -> bool
-    ensures { result ≡ bytes_eq name.now (pupi identity.now.bytes) }
-{
-    is_same(name, identity.pupi())
-}
-
-fn write_atqb(identity: &Identity, reply: &mut Reply)
-    requires { held reply.old ≡ [] }
-    ensures body { held reply.new ≡ atqb identity.now.bytes }
-    ensures short { length (held reply.new) ≤ 254 }
-{
-    reply.push(&[0x50]);
-    reply.push(identity.pupi());
-    reply.push(&[0x00, 0x00, 0x00, 0x00, 0x91, 0x81, 16 * identity.fwi()]);
-}
-
-// 05.
-pub(crate) fn request(
-    identity: &Identity,
-    state: State,
-    afi: u8,
-    param: u8,
-    reply: &mut Reply,
-) -> State
-    requires { held reply.old ≡ [] }
-    ensures { Turned (requested identity.now.bytes afi param (phase_of state)) result (held reply.new) }
-{
-    if is_listening(&state, param) && afi_fits(afi, identity.afi()) {
-        write_atqb(identity, reply);
-        return State::Ready;
-    }
-    state
-}
-
-// 1D: the session begins.
-pub(crate) fn attrib(
-    identity: &Identity,
-    state: State,
-    pupi: &[u8],
-    size: FrameSize,
-    reply: &mut Reply,
-) -> State
-    requires { held reply.old ≡ [] }
-    ensures { Turned (in_ready (chosen identity.now.bytes pupi.now size) (phase_of state)) result (held reply.new) }
-{
-    match state {
-        State::Ready => {
-            if is_own(identity, pupi) {
-                reply.push(&[0x10]);
-                State::Active(Session::new(size))
-            } else {
-                State::Ready
-            }
+    // 05.
+    pub(crate) fn request(&mut self, identity: &Identity, afi: u8, param: u8) -> Body
+        ensures { Turned (requested identity.now.bytes afi param (phase_of self.old)) self.new (held result) }
+    {
+        if is_listening(self, param) && afi_fits(afi, identity.afi()) {
+            *self = State::Ready;
+            atqb(identity)
+        } else {
+            Body::new()
         }
-        _ => state,
     }
-}
 
-// 50.
-pub(crate) fn halt(identity: &Identity, state: State, pupi: &[u8], reply: &mut Reply) -> State
-    requires { held reply.old ≡ [] }
-    ensures { Turned (in_ready (laid_down identity.now.bytes pupi.now) (phase_of state)) result (held reply.new) }
-{
-    match state {
-        State::Ready => {
-            if is_own(identity, pupi) {
-                reply.push(&[0x00]);
-                State::Halt
-            } else {
-                State::Ready
-            }
+    // What READY alone answers, and only to the tag's own name.
+    fn named(&mut self, identity: &Identity, name: &[u8], next: State, answer: u8) -> Body
+        ensures { Turned (in_ready (if_own identity.now.bytes name.now (record { phase = phase_of next; said = answer ∷ [] })) (phase_of self.old)) self.new (held result) }
+    {
+        if matches!(self, State::Ready) && is_own(identity, name) {
+            *self = next;
+            Body::of(&[answer])
+        } else {
+            Body::new()
         }
-        _ => state,
+    }
+
+    // 1D: the session begins.
+    pub(crate) fn attrib(&mut self, identity: &Identity, pupi: &[u8], size: FrameSize) -> Body
+        ensures { Turned (in_ready (chosen identity.now.bytes pupi.now size) (phase_of self.old)) self.new (held result) }
+    {
+        self.named(identity, pupi, State::Active(Session::new(size)), 0x10)
+    }
+
+    // 50.
+    pub(crate) fn halt(&mut self, identity: &Identity, pupi: &[u8]) -> Body
+        ensures { Turned (in_ready (laid_down identity.now.bytes pupi.now) (phase_of self.old)) self.new (held result) }
+    {
+        self.named(identity, pupi, State::Halt, 0x00)
     }
 }

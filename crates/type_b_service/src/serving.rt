@@ -1,72 +1,62 @@
-ghost use Rattle.std.specs.Prelude.{◌≡◌, [], is_some};
-ghost use Rattle.reply.specs.Held.{held};
+ghost use Rattle.std.specs.Prelude.{◌≡◌, is_some};
+ghost use Rattle.buffer.specs.Held.{held};
 ghost use Rattle.type_b.specs.Frames.{kind, kind_of};
 ghost use Rattle.type_b_service.specs.Turns.{completed, effect, turn};
 ghost use Rattle.type_b_service.specs.View.{Turned, phase_of};
 
-use crate::activation::{attrib, halt, request};
-use crate::blocks::{deselect, take_ack, take_chained, take_last, take_nak};
 use crate::state::{Served, State};
 use memory::Store;
-use reply::Reply;
+use reply::Body;
 use system::SystemCopy;
 use type_b::{Frame, taken_apart};
 
-// Serves a frame. The reply then holds the body of the answer, or nothing for silence.
-pub fn serve<S: Store>(
-    store: &mut S,
-    copy: &SystemCopy,
-    state: State,
-    frame: &[u8],
-    reply: &mut Reply,
-) -> Served
-    requires { held reply.old ≡ [] }
-    ensures turned { Turned (turn copy.now.identity.bytes copy.now.protection.bytes (S.blocks store.old) (phase_of state) (kind_of frame.now)) result.state (held reply.new) }
-    ensures performed { result.performed ≡ is_some (completed (phase_of state) (kind_of frame.now)) }
-    ensures memory { S.blocks store.new ≡ effect copy.now.protection.bytes (S.blocks store.old) (completed (phase_of state) (kind_of frame.now)) }
+// Serves a frame: the body of the answer holds nothing where the frame meets silence.
+pub fn serve<S: Store>(store: &mut S, copy: &SystemCopy, state: &mut State, frame: &[u8]) -> Served
+    ensures turned { Turned (turn copy.now.identity.bytes copy.now.protection.bytes (S.blocks store.old) (phase_of state.old) (kind_of frame.now)) state.new (held result.body) }
+    ensures performed { result.performed ≡ is_some (completed (phase_of state.old) (kind_of frame.now)) }
+    ensures memory { S.blocks store.new ≡ effect copy.now.protection.bytes (S.blocks store.old) (completed (phase_of state.old) (kind_of frame.now)) }
 {
     let taken = taken_apart(frame);
     Served {
-        performed: completes(&state, taken),
-        state: by_kind(store, copy, state, taken, reply),
+        performed: completes(state, taken),
+        body: by_kind(store, copy, state, taken),
     }
 }
 
 // Whether a frame completes a command.
-fn completes(state: &State, frame: Frame<'_>) -> bool
+fn completes(state: &State, frame: Option<Frame<'_>>) -> bool
     ensures { result ≡ is_some (completed (phase_of state.now) (kind frame.entry)) }
 {
     match frame {
-        Frame::Information { chained, .. } => !chained && state.is_active(),
+        Some(Frame::Information { chained, .. }) => !chained && state.is_active(),
         _ => false,
     }
 }
 
+// Store, copy and state stay three parameters, lent from three fields of a tag: most kinds need one or two of them.
 fn by_kind<S: Store>(
     store: &mut S,
     copy: &SystemCopy,
-    state: State,
-    frame: Frame<'_>,
-    reply: &mut Reply,
-) -> State
-    requires { held reply.old ≡ [] }
-    ensures turned { Turned (turn copy.now.identity.bytes copy.now.protection.bytes (S.blocks store.old) (phase_of state) (kind frame.entry)) result (held reply.new) }
-    ensures memory { S.blocks store.new ≡ effect copy.now.protection.bytes (S.blocks store.old) (completed (phase_of state) (kind frame.entry)) }
+    state: &mut State,
+    frame: Option<Frame<'_>>,
+) -> Body
+    ensures turned { Turned (turn copy.now.identity.bytes copy.now.protection.bytes (S.blocks store.old) (phase_of state.old) (kind frame.entry)) state.new (held result) }
+    ensures memory { S.blocks store.new ≡ effect copy.now.protection.bytes (S.blocks store.old) (completed (phase_of state.old) (kind frame.entry)) }
 {
     match frame {
-        Frame::Request { afi, param } => request(&copy.identity, state, afi, param, reply),
-        Frame::Attrib { pupi, size } => attrib(&copy.identity, state, pupi, size, reply),
-        Frame::Halt { pupi } => halt(&copy.identity, state, pupi, reply),
-        Frame::Deselect => deselect(state, reply),
-        Frame::Information { chained, inf } => {
+        None => Body::new(),
+        Some(Frame::Request { afi, param }) => state.request(&copy.identity, afi, param),
+        Some(Frame::Attrib { pupi, size }) => state.attrib(&copy.identity, pupi, size),
+        Some(Frame::Halt { pupi }) => state.halt(&copy.identity, pupi),
+        Some(Frame::Deselect) => state.deselect(),
+        Some(Frame::Information { chained, inf }) => {
             if chained {
-                take_chained(state, inf, reply)
+                state.take_chained(inf)
             } else {
-                take_last(store, &copy.protection, state, inf, reply)
+                state.take_last(store, &copy.protection, inf)
             }
         }
-        Frame::Ack { number } => take_ack(state, number, reply),
-        Frame::Nak { number } => take_nak(state, number, reply),
-        Frame::Unknown => state,
+        Some(Frame::Ack { number }) => state.take_ack(number),
+        Some(Frame::Nak { number }) => state.take_nak(number),
     }
 }

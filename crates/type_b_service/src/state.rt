@@ -1,9 +1,10 @@
+use reply::Body;
 use session::Session;
 
-// What a frame left: the state after it, and whether it completed a command, which was performed.
+// What a frame is answered, and whether it completed a command, which was performed.
 #[derive(Clone, Copy)]
 pub struct Served {
-    pub state: State,
+    pub body: Body,
     pub performed: bool,
 }
 

@@ -5,7 +5,7 @@ ghost use Rattle.std.specs.Prelude.{◌≡◌};
 ghost use Rattle.checksum.specs.Checksum.{jis_checksum, crc_b};
 ghost use Rattle.vectors.specs.declared.Protocol.TheVariants.{Jis, TypeB};
 
-use anyhow::anyhow;
+use anyhow::ensure;
 use checksum::{jis, type_b};
 use std::fmt;
 
@@ -38,6 +38,30 @@ struct Vector {
     protocol: Protocol,
     message: &'static [u8],
     published: [u8; 2],
+}
+
+impl Vector {
+    fn agrees(&self) -> bool {
+        self.protocol.checksum(self.message) == self.published
+    }
+}
+
+impl fmt::Display for Vector {
+    fn fmt<W: fmt::Write>(&self, f: &mut fmt::Formatter<W>) -> fmt::Result {
+        let computed = self.protocol.checksum(self.message);
+        write!(
+            f,
+            "{} {} gives {}",
+            self.protocol,
+            Hex(self.message),
+            Hex(&computed)
+        )?;
+        if self.agrees() {
+            Ok(())
+        } else {
+            write!(f, ", published {}", Hex(&self.published))
+        }
+    }
 }
 
 const VECTORS: &[Vector] = &[
@@ -88,7 +112,7 @@ const VECTORS: &[Vector] = &[
     },
 ];
 
-// Bytes as they are printed: two digits each, a space between.
+// Bytes as they are printed: two digits each, a space between. (`printing` puts no spaces, and rests on the tag, which the checksums do not.)
 #[derive(Drop)]
 struct Hex<'a>(&'a [u8]);
 
@@ -109,25 +133,10 @@ fn main(rt: HostRuntime) -> anyhow::Result<()> {
 }
 
 fn run(rt: &impl Print) -> anyhow::Result<()> {
-    let mut all_agree = true;
     for vector in VECTORS {
-        let computed = vector.protocol.checksum(vector.message);
-        print!(rt;
-            "{} {} gives {}",
-            vector.protocol,
-            Hex(vector.message),
-            Hex(&computed)
-        )?;
-        if computed == vector.published {
-            println!(rt)?;
-        } else {
-            println!(rt; ", published {}", Hex(&vector.published))?;
-            all_agree = false;
-        }
+        println!(rt; "{vector}")?;
     }
-    if !all_agree {
-        return Err(anyhow!("a vector disagrees"));
-    }
+    ensure!(VECTORS.iter().all(Vector::agrees), "a vector disagrees");
     println!(rt; "{} vectors agree", VECTORS.len())?;
     Ok(())
 }

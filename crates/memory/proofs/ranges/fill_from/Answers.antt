@@ -1,30 +1,26 @@
-use Rattle.std.proofs.Common.{◌≡◌, ℕ, ◌+◌, ◌-◌, ◌*◌, ◌≤◌, List, [], ◌++◌, length, drop, refl, ◌∙◌, ap₂, append-nil, arith}
-use Rattle.std.proofs.lemmas.List.{drop_all}
-use Rattle.memory.specs.Memory.{bytes_from}
-use Rattle.memory.proofs.Runs.{read_turn}
+use Rattle.std.proofs.Common.{◌≡◌, ℕ, ◌+◌, ◌-◌, ◌*◌, ◌<◌, ◌≤◌, length, ap, ◌∙◌, arith}
+use Rattle.memory.proofs.Runs.{piece_read}
 use Rattle.memory.proofs.ranges.fill_from.Goals as goal
 
-pub loop-done-init : goal.loop-done-init
-loop-done-init g c = (refl, omega arith)
-
-pub loop-done-preserved : goal.loop-done-preserved
-loop-done-preserved g c =
-    let k = c.loop-done.done in
-    let n = c.min-n.result in
-    let b = c.lookup-offset.result.0.index in
-    let o = c.lookup-offset.result.1 in
-    let at : 16 * b + o ≡ c.value-from.result + k = omega arith in
-    let kn : k + n ≤ length c.args.out.now = omega arith in
-    let on : o + n ≤ 16 = omega arith in
-    let ev : (o + n) - o ≡ n = omega arith in
-    let ew : (k + n) - k ≡ n = omega arith in (
-      read_turn _ c.args.out.now c.loop-done.out c.value-from.result k n b o ((o + n) - o) ((k + n) - k) c.read-held.result c.copy_from_slice.new.self
-          (g.met.S.Store.shaped c.args.store.now) c.loop-done.invariant.0 kn at on c.lookup-offset.result.0.within c.read-held.ensures ev ew c.copy_from_slice.ensures.after,
-      kn,
+pub loop-piece-preserved : goal.loop-piece-preserved
+loop-piece-preserved g c =
+    let d = c.loop-piece.piece-iterator.done in
+    let e = c.next.new.self.done in
+    let p = c.in-Some.piece in
+    let next = c.in-Some.ensures.steps in
+    let de : d < e = next.2.0 in
+    let el : e ≤ length c.args.out.now = omega arith in
+    let at : 16 * p.block.index + p.in_block.start ≡ c.args.start.at + d = next.2.3 ∙ ap (λ (z : ℕ). z + d) c.loop-piece.invariant.3 in
+    let po : p.in_block.end ≡ p.in_block.start + (e - d) = next.2.4 in
+    let on : p.in_block.end ≤ 16 = next.2.5 in
+    let eq : p.in_range.start ≡ d = next.2.1 in
+    let er : p.in_range.end ≡ e = next.2.2 in
+    let start : c.next.new.self.start ≡ c.args.start.at = next.0 ∙ c.loop-piece.invariant.3 in
+    let len : c.next.new.self.len ≡ length c.args.out.now = next.1 ∙ c.loop-piece.invariant.4 in (
+      tt,
+      tt,
+      piece_read _ c.args.out.now c.loop-piece.out c.args.start.at d e p.block.index p.in_block.start p.in_block.end p.in_range.start p.in_range.end c.read-held.result c.copy_from_slice.new.self
+          (g.met.S.Store.shaped c.args.store.now) c.loop-piece.invariant.2 de el at po on p.block.within c.read-held.ensures eq er c.copy_from_slice.ensures.after,
+      start,
+      len,
     )
-
-pub returns : goal.returns
-returns g c =
-    let e : c.loop-done.done ≡ length c.args.out.now = omega arith in
-    let none : drop c.loop-done.done c.args.out.now ≡ [] = drop_all c.loop-done.done c.args.out.now (omega arith) in
-    c.loop-done.invariant.0 ∙ ap₂ (λ (y z : List ℕ). y ++ z) (ap₂ (bytes_from _) c.value-from.ensures e) none ∙ append-nil _

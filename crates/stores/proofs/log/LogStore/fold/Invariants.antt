@@ -1,7 +1,7 @@
-use Rattle.std.proofs.Common.{◌≡◌, ◌≤◌}
+use Rattle.std.proofs.Common.{◌≡◌, ◌≤◌, length}
 use Rattle.stores.specs.Log.{entries, fold}
 use Rattle.stores.proofs.log.LogStore.fold.Given as goal
 
 -- the blocks below i are folded
 abbrev pub invariant-loop-i : goal.invariant-loop-i
-invariant-loop-i l = (entries l.kept ≡ fold l.i (entries l.self)) × (l.kept.log.count ≤ l.i)
+invariant-loop-i l = (l.kept.items ≡ fold l.i (entries l.self)) × (length l.kept.items ≤ l.i)

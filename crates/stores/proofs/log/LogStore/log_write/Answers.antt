@@ -5,5 +5,5 @@ use Rattle.stores.proofs.log.LogStore.log_write.Goals as goal
 
 pub returns : goal.returns
 returns c =
-    let w = logged (entries c.args.self.now) _ _ _ c.args.b.index c.args.block.now c.append.ensures.entries c.make_room.ensures.entries refl refl in
+    let w = logged (entries c.args.self.now) _ _ _ c.args.b.index c.args.block.now c.push.ensures.items c.make_room.ensures.entries refl refl in
     record { blocks = w.0; logged = w.1 }

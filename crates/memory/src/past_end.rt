@@ -1,0 +1,3 @@
+// The address, or the range, would lie past the end of the memory.
+#[derive(Clone, Copy, Debug, PartialEq, Eq)]
+pub struct PastEnd;
