@@ -1,7 +1,7 @@
 -- The laws of a log: its newest entries, its replay and its fold. Assumes nothing.
-use Rattle.std.specs.Prelude.{◌≡◌, ℕ, zero, suc, ◌+◌, ◌<◌, ◌≤◌, Bool, true, false, cond, List, [], ◌∷◌, ◌++◌, length, IfSome, Some, None, Option, ◌==◌, ◌≢◌, nat_lt, refl}
+use Rattle.std.specs.Prelude.{◌≡◌, ℕ, zero, suc, ◌+◌, ◌<◌, ◌≤◌, Bool, true, false, cond, List, [], ◌∷◌, ◌++◌, length, take, IfSome, Some, None, Option, ◌==◌, ◌≢◌, nat_lt, slice_index_or, refl}
 use Rattle.std.proofs.Common.{ap, ap₂, sym, ◌∙◌, inl, inr, arith, not-suc-le-zero, add-one, length-set, get_or-set_same, get_or-set_other}
-use Rattle.std.proofs.lemmas.List.{ext_get_or, reverse-append}
+use Rattle.std.proofs.lemmas.List.{ext_get_or, reverse-append, take_more}
 use Rattle.std.proofs.lemmas.Bool.{cases_eq, cases_lt, eq-eqb, ne_eqb}
 use mathlib.Core.List.{reverse}
 use Rattle.std.specs.List.{find}
@@ -67,6 +67,12 @@ newest_append [] ys b = sym (or_older_none (newest ys b))
 newest_append (x ∷ xs) ys b =
     ap (λ (o : Option Entry). or_older o (cond (x.block.index == b) (Some x) None)) (newest_append xs ys b)
     ∙ sym (or_older_assoc (newest ys b) (newest xs b) (cond (x.block.index == b) (Some x) None))
+
+pub newest_here : (es : List Entry) (e : Entry) (b : ℕ) → e.block.index ≡ b → newest (es ++ e ∷ []) b ≡ Some e
+newest_here es e b q = newest_append es (e ∷ []) b ∙ ap (λ (t : Bool). or_older (cond t (Some e) None) (newest es b)) (eq-eqb e.block.index b q)
+
+pub newest_below : (es : List Entry) (e : Entry) (b : ℕ) → (e.block.index ≢ b) → newest (es ++ e ∷ []) b ≡ newest es b
+newest_below es e b ne = newest_append es (e ∷ []) b ∙ ap (λ (t : Bool). or_older (cond t (Some e) None) (newest es b)) (ne_eqb e.block.index b ne)
 
 -- the newest entry is the first that a search from the end meets
 found_before : (p : Entry → Bool) (xs : List Entry) (e : Entry) → find p (xs ++ e ∷ []) ≡ or_older (find p xs) (cond (p e) (Some e) None)
@@ -149,6 +155,10 @@ room_means es = by (nat_lt (length es) capacity)
     by : (t : Bool) → replayed zeros (cond t es (fold block_count es)) ≡ replayed zeros es
     by true = refl
     by false = fold_means es
+
+-- the entries up to one, and that one
+pub last_taken : (es : List Entry) (i n : ℕ) (e : Entry) → i + 1 ≡ n → i < length es → e ≡ slice_index_or es i e → take n es ≡ take i es ++ e ∷ []
+last_taken es i n e s l q = ap (λ (k : ℕ). take k es) (sym s) ∙ take_more es i e l ∙ ap (λ (x : Entry). take i es ++ x ∷ []) (sym q)
 
 -- the read
 pub read_back : (es : List Entry) (b : ℕ) (o : Option Entry) → b < block_count → o ≡ newest es b → held_by o ≡ block_at (replayed zeros es) b

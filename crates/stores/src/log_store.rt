@@ -92,12 +92,15 @@ impl Load for LogStore {
         }
     }
 
-    // An entry for each block.
+    // An entry for each block. The length comes first, so that nothing is written for an image that is refused.
     fn load(image: &[u8]) -> Result<LogStore, Refusal> {
+        if image.len() != 512 {
+            return Err(Refusal::NotImageSized);
+        }
         let mut store = LogStore::zeros();
         match write_bytes(&mut store, Address::ZERO, image) {
-            Ok(()) if image.len() == 512 => Ok(store),
-            _ => Err(Refusal::NotImageSized),
+            Ok(()) => Ok(store),
+            Err(_) => Err(Refusal::NotImageSized),
         }
     }
 }
