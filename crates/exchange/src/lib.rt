@@ -4,3 +4,6 @@
 mod asking;
 
 pub use asking::ask;
+
+// Up to 256 bytes: as many as a frame or a command has at most. What is asked over a link is a `Body`, which leaves room for the checksum.
+pub type Buffer = buffer::Buffer<256>;

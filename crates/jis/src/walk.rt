@@ -21,6 +21,14 @@ impl<'a> Blocks<'a> {
     {
         Blocks { bytes, left: count }
     }
+
+    // The bytes of the elements that are left, one behind the other.
+    pub fn as_bytes(&self) -> &'a [u8]
+        ensures { result.now ≡ self.now.bytes.now }
+    {
+        let Blocks { bytes, .. } = *self;
+        bytes
+    }
 }
 
 impl<'a> Iterator for Blocks<'a> {

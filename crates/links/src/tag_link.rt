@@ -47,6 +47,7 @@ impl<S: Store> TagLink<S, PlannedLosses> {
 impl<S: Store, L: Losses> TagLink<S, L> {
     // A link to the tag, nothing counted yet.
     fn with_losses(tag: Tag<S>, losses: L) -> TagLink<S, L>
+        ensures kept { result.tag ≡ tag }
         ensures state { state_of S.blocks result ≡ unused (view S.blocks tag) }
         ensures losses { result.losses ≡ losses }
     {
