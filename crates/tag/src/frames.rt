@@ -2,12 +2,12 @@ ghost use Rattle.std.specs.Prelude.{◌≡◌, ◌+◌, ◌%◌, ◌^◌, ◌<�
 ghost use Rattle.memory.specs.declared.refusal.Refusal.TheVariants.{ReplyBufferShort};
 ghost use Rattle.buffer.specs.Held.{held};
 ghost use Rattle.tag.specs.History.{jis, type_b};
-ghost use Rattle.tag.specs.Steps.{jis_memory, jis_payload, reply_room, serving, type_b_after, type_b_body};
-ghost use Rattle.tag.specs.View.{Called, power_in, view};
+ghost use Rattle.tag.specs.Steps.{jis_memory, jis_payload, reply_room, serving};
+ghost use Rattle.tag.specs.View.{Called, power_in};
 
 use crate::state::Tag;
 use memory::{Refusal, Store};
-use reply::{Body, Payload, seal_jis, seal_type_b, send};
+use reply::{Payload, seal_jis, seal_type_b, send};
 
 impl<S: Store> Tag<S> {
     // A JIS frame comes in. The reply goes to the front of the buffer, and its length is answered, or none for silence.
@@ -42,23 +42,15 @@ impl<S: Store> Tag<S> {
         ensures { Called S.blocks self.old (type_b frame.now reply.old result reply.new) self.new }
     {
         check_room(reply)?;
-        let body = self.type_b_body(frame);
-        if body.is_empty() {
-            return Ok(None);
-        }
-        Ok(send(&seal_type_b(&body), reply))
-    }
-
-    fn type_b_body(&mut self, frame: &[u8]) -> Body
-        ensures said { held result ≡ type_b_body (power_in self.old.power) (S.blocks self.old.store) frame.now }
-        ensures after { view S.blocks self.new ≡ type_b_after (view S.blocks self.old) frame.now }
-    {
         let Some(power) = &mut self.power else {
-            return Body::new();
+            return Ok(None);
         };
         let served = type_b_service::serve(&mut self.store, &power.copy, &mut power.state, frame);
         self.performed = counted(self.performed, served.performed);
-        served.body
+        if served.body.is_empty() {
+            return Ok(None);
+        }
+        Ok(send(&seal_type_b(&served.body), reply))
     }
 }
 
